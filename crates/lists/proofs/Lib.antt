@@ -1,0 +1,4 @@
+-- Laws of tests, of lists and of the order by several numbers.
+pub mod BoolLaws
+pub mod ListLaws
+pub mod LexLaws

@@ -1,0 +1,3 @@
+-- Lists and tests that the other crates' definitions speak of.
+pub mod Lists
+pub mod Lex

@@ -1,0 +1,1 @@
+// What follows of the rules, for proofs alone: this crate has no code.
