@@ -1,6 +1,7 @@
 -- Laws of tests that are joined: `&&`, `||`, and cases on a test.
 use mathlib.Core.Path.{_≡_, refl, sym, ap, _∙_}
 use mathlib.Core.Bool.{Bool, true, false, cond, not, _&&_, _||_, true≢false}
+use Rattle.lists.specs.Lists.{Says}
 
 pub and-comm : (u v : Bool) → u && v ≡ v && u
 and-comm true true = refl
@@ -85,3 +86,10 @@ or-swap false v w = refl
 pub and-more : (t u v : Bool) → t && v ≡ true → (t || u) && v ≡ true
 and-more true u v e = e
 and-more false u v e = clash e refl
+
+-- a test that passes, and one that fails
+pub says-yes : {P : Type 0} → P → Says true P
+says-yes p = record { yes = λ e. p; no = λ e. clash {u = true} refl e }
+
+pub says-no : {P : Type 0} → (P → ⊥) → Says false P
+says-no f = record { yes = λ e. clash e refl; no = λ e p. f p }

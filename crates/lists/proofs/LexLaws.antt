@@ -1,6 +1,6 @@
 -- The test `lex` and the fact `Lex`.
 use mathlib.Core.Path.{_≡_, refl, sym, _∙_}
-use mathlib.Core.Bool.{Bool, true, false, cond, _&&_, _||_}
+use mathlib.Core.Bool.{Bool, true, false, cond, not, _&&_, _||_}
 use Prim.Native.Nat.{ℕ, _≤_, _<_}
 use native.Mathlib.Omega.{arith}
 use lib.Dec.{eqb, ltb, leb}
@@ -67,11 +67,34 @@ module _ (a b : ℕ) (t : Bool) where
   pub lex-same : a ≡ b → lex a b t ≡ t
   lex-same q = rw (le-ltb a b (omega arith), eq-eqb a b q)
 
+  pub lex-below : a < b → lex a b t ≡ true
+  lex-below h = lex-pass (record { below = omega arith; tie = λ q. absurd (omega arith) })
+
+  pub lex-tie : b ≤ a → a ≤ b → lex a b t ≡ t
+  lex-tie h k = lex-same (omega arith)
+
   pub lex-above : b < a → lex a b t ≡ false
   lex-above h = lex-fail (record { below = omega arith; tie = λ q. absurd (omega arith) })
 
 pub lex-map : {a b : ℕ} {P Q : Type 0} → (P → Q) → Lex a b P → Lex a b Q
 lex-map f h = record { below = h .below; tie = λ e. f (h .tie e) }
+
+-- the other way round
+pub lex-not : (a b : ℕ) (t : Bool) → lex a b (not t) ≡ not (lex b a t)
+lex-not a b t = go (lex b a t) refl
+  where
+    go : (u : Bool) → lex b a t ≡ u → lex a b (not t) ≡ not u
+    go true e = lex-fail a b (not t) (lex-map (λ f. rw f) (lex-true b a t e))
+    go false e = lex-pass a b (not t) (lex-map (λ f. rw f) (lex-false b a t e))
+
+-- where equal ones do not pass
+pub lex-off : (a b : ℕ) → lex a b false ≡ ltb a b
+lex-off a b = go (ltb a b) (eqb a b)
+  where
+    go : (u v : Bool) → u || (v && false) ≡ u
+    go true v = refl
+    go false true = refl
+    go false false = refl
 
 pub lex-refl : {P : Type 0} (a : ℕ) → P → Lex a a P
 lex-refl a p = record { below = omega arith; tie = λ _. p }

@@ -2,3 +2,4 @@
 pub mod BoolLaws
 pub mod ListLaws
 pub mod LexLaws
+pub mod BuildLaws

@@ -6,6 +6,11 @@ use mathlib.Core.List.{List, [], _∷_, _++_}
 use Prim.Native.Nat.{ℕ, _+_}
 use lib.ListN.{length}
 
+-- a test decides a statement: where it passes the statement holds, where it fails it does not
+pub record Says (r : Bool) (P : Type 0) : Type 0 where
+  pub yes : r ≡ true → P
+  pub no : r ≡ false → P → ⊥
+
 -- an option is filled
 abbrev pub some? : {A : Type 0} → Option A → Bool
 some? Option.none = false

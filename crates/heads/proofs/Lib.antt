@@ -1,0 +1,6 @@
+-- Laws of the heads, over the lists that they stand for.
+pub mod LeastLaws
+pub mod CheckLaws
+pub mod MoveLaws
+pub mod RestLaws
+pub mod LoadLaws

@@ -1,0 +1,117 @@
+use borrow.Author.Tests.{not-true, not-false}
+use Rattle.heads.proofs.MoveLaws.{decided-ends, decided-follows}
+-- `decide` meets its contract: no head, or one that stays; else the row behind it decides.
+use mathlib.Core.Path.{_≡_, sym, ap, _∙_}
+use mathlib.Core.List.{List}
+use Prim.Native.Nat.{ℕ, _<_, _≤_, _+_}
+use native.Mathlib.Omega.{arith}
+use denote.Ref.{now}
+use lib.ListN.{getD}
+use Rattle.rules.specs.Rows.{Record}
+use Rattle.heads.specs.declared.Best.{Best}
+use Rattle.heads.specs.View.{Cols, cols}
+use Rattle.heads.specs.Move.{bestRecord, takenOf, behindBy}
+use Rattle.heads.proofs.MoveLaws.{Chosen, chosen, stays-none, stays-untaken}
+use borrow.Author.Needs.{needs}
+use Rattle.heads.proofs.decide.Statement.{statement}
+use Rattle.heads.proofs.decide.Tie as tie
+use Rattle.heads.proofs.decide.Reads as reads
+use Rattle.heads.proofs.decide.Lts as lts
+use Rattle.heads.proofs.follow.Reads as follow-reads
+use Rattle.heads.proofs.is_live.Reads as is-live-reads
+use Rattle.heads.proofs.is_taken.Reads as is-taken-reads
+use Rattle.heads.proofs.least_of.Reads as least-of-reads
+
+abbrev sc : tie.Start → Cols
+sc c = cols (now (c .args .chrom)) (now (c .args .start)) (now (c .args .stop))
+
+-- the rows behind the heads
+abbrev after : tie.Start → ℕ → List Record
+after c = behindBy (sc c) (now (c .args .next)) (now (c .args .from)) (now (c .args .to))
+
+-- the head that is chosen
+abbrev Choice : tie.Start → Best → Type 0
+Choice c h = Chosen (c .args .q) (c .args .ended) (after c) (c .args .streams) (c .pre .few) h
+
+choice : (c : tie.Else1) → Choice (c .before .before .before .before .before) (c .before .least-of .result)
+choice c =
+    let a = c .before .before .before .before .before in
+    chosen (a .args .q) (a .args .ended) (after a) (a .args .streams) (a .pre .few) (c .before .least-of .result) (c .before .least-of .ensures) (c .if1 .left)
+
+below : (c : tie.Else1) → c .before .least-of .result .at < 8
+below c = omega (arith, choice c .inside, c .before .before .before .before .before .pre .few)
+
+-- src/lib.rt:285:9
+least-of-requires : tie.Need-least-of-requires
+least-of-requires c κs = search needs
+
+-- src/lib.rt:288:9
+returns : tie.Need-returns
+returns c = sym (stays-none (c .before .before .before .before .before .args .q) (c .before .before .before .before .before .args .ended) (after (c .before .before .before .before .before)) (c .before .before .before .before .before .args .streams) ((c .before .before .before .before .before) .pre .few) (c .before .before .before .before .before .args .n) (c .before .before .before .before .before .args .b) (now (c .before .before .before .before .before .args .next)) (c .before .least-of .result) (c .before .least-of .ensures) (c .if1 .taken))
+
+-- src/lib.rt:290:9
+is-taken-requires : tie.Need-is-taken-requires
+is-taken-requires c κs = search needs
+
+-- src/lib.rt:291:9
+returns-2 : tie.Need-returns-2
+returns-2 c = sym (stays-untaken (c .before .before .before .before .before .before .before .args .q) (c .before .before .before .before .before .before .before .args .ended) (after (c .before .before .before .before .before .before .before)) (c .before .before .before .before .before .before .before .args .streams) ((c .before .before .before .before .before .before .before) .pre .few) (c .before .before .before .before .before .before .before .args .n) (c .before .before .before .before .before .before .before .args .b) (now (c .before .before .before .before .before .before .before .args .next)) (c .before .before .before .least-of .result) (choice (c .before .before)) (sym (c .before .is-taken .ensures) ∙ not-true _ (c .if2 .taken)))
+
+-- src/lib.rt:295:15
+is-live-requires : tie.Need-is-live-requires
+is-live-requires c κs = search needs
+
+-- src/lib.rt:300:14
+mul-at : tie.Need-mul-at
+mul-at c = omega (arith, below (c .before .before .before))
+
+-- src/lib.rt:300:14
+element-copy-out-at : tie.Need-element-copy-out-at
+element-copy-out-at c = below (c .before .before .before)
+
+-- src/lib.rt:301:8
+mul-if3 : tie.Need-mul-if3
+mul-if3 c = omega (arith, below (c .before .before .before .before))
+
+-- src/lib.rt:301:8
+element-copy-out-if3 : tie.Need-element-copy-out-if3
+element-copy-out-if3 c = below (c .before .before .before .before)
+
+-- src/lib.rt:302:9
+returns-3 : tie.Need-returns-3
+returns-3 c = decided-ends (c .before .before .before .before .before .before .before .before .before .before .before .args .q) (c .before .before .before .before .before .before .before .before .before .before .before .args .ended) (sc (c .before .before .before .before .before .before .before .before .before .before .before)) (now (c .before .before .before .before .before .before .before .before .before .before .before .args .next)) (now (c .before .before .before .before .before .before .before .before .before .before .before .args .from)) (now (c .before .before .before .before .before .before .before .before .before .before .before .args .to)) (c .before .before .before .before .before .before .before .before .before .before .before .args .streams) ((c .before .before .before .before .before .before .before .before .before .before .before) .pre .few) (c .before .before .before .before .before .before .before .before .before .before .before .args .n) (c .before .before .before .before .before .before .before .before .before .before .before .args .b) (c .before .before .before .before .before .before .before .least-of .result) (choice (c .before .before .before .before .before .before)) (c .before .before .before .is-live .result) (c .before .before .before .is-live .ensures) (sym (c .before .before .before .before .before .is-taken .ensures) ∙ not-false _ (c .before .before .before .before .if2 .left)) (c .if3 .taken)
+
+-- src/lib.rt:304:17
+mul-first : tie.Need-mul-first
+mul-first c = omega (arith, below (c .before .before .before .before .before .before))
+
+-- src/lib.rt:304:17
+element-copy-out-first : tie.Need-element-copy-out-first
+element-copy-out-first c = below (c .before .before .before .before .before .before)
+
+-- src/lib.rt:305:5
+follow-requires : tie.Need-follow-requires
+follow-requires c κs = let p = (c .before .before .before .before .before .before .before .before .before .before .before .before) .pre in let k = c .before .before .before .before .before .before .before .before .least-of .result .at in (p .low k (choice (c .before .before .before .before .before .before .before) .inside), omega (arith, p .high k (choice (c .before .before .before .before .before .before .before) .inside), c .before .if3 .left), p .starts, p .stops)
+
+-- src/lib.rt:269:1
+returns-4 : tie.Need-returns-4
+returns-4 c = decided-follows (c .before .before .before .before .before .before .before .before .before .before .before .before .before .args .q) (c .before .before .before .before .before .before .before .before .before .before .before .before .before .args .ended) (sc (c .before .before .before .before .before .before .before .before .before .before .before .before .before)) (now (c .before .before .before .before .before .before .before .before .before .before .before .before .before .args .next)) (now (c .before .before .before .before .before .before .before .before .before .before .before .before .before .args .from)) (now (c .before .before .before .before .before .before .before .before .before .before .before .before .before .args .to)) (c .before .before .before .before .before .before .before .before .before .before .before .before .before .args .streams) ((c .before .before .before .before .before .before .before .before .before .before .before .before .before) .pre .few) (c .before .before .before .before .before .before .before .before .before .before .before .before .before .args .n) (c .before .before .before .before .before .before .before .before .before .before .before .before .before .args .b) (c .before .before .before .before .before .before .before .before .before .least-of .result) (choice (c .before .before .before .before .before .before .before .before)) (c .before .before .before .before .before .is-live .result) (c .before .before .before .before .before .is-live .ensures) (sym (c .before .before .before .before .before .before .before .is-taken .ensures) ∙ not-false _ (c .before .before .before .before .before .before .if2 .left)) (c .follow .result) (c .before .before .if3 .left) (c .follow .ensures)
+
+pub decide-spec : {M : Type 1} → statement M
+decide-spec =
+    tie.close
+    (tie.spec
+    least-of-requires
+    returns
+    is-taken-requires
+    returns-2
+    is-live-requires
+    mul-at
+    element-copy-out-at
+    mul-if3
+    element-copy-out-if3
+    returns-3
+    mul-first
+    element-copy-out-first
+    follow-requires
+    returns-4)

@@ -1,0 +1,5 @@
+-- What the arrays of a run and the lent columns stand for.
+pub mod View
+pub mod Least
+pub mod Move
+pub mod Load

@@ -1,0 +1,453 @@
+// The heads of up to eight streams: the least of them, what taking it comes to, and loading them.
+ghost use mathlib.Core.Path.{_≡_};
+ghost use mathlib.Core.Bool.{Bool, true, false};
+ghost use mathlib.Core.List.{List, [], _∷_};
+ghost use Prim.Native.Nat.{ℕ, _+_, _-_, _<_, _≤_};
+ghost use lib.ListN.{length, getD};
+ghost use mathlib.Core.Option.{none, some};
+ghost use Rattle.rules.specs.Rows.{fault};
+ghost use Rattle.rules.specs.Overlap.{taken, live};
+ghost use Rattle.rules.specs.Streams.{ahead};
+ghost use Rattle.rules.specs.Merge.{pick};
+ghost use Rattle.lists.specs.Build.{build};
+ghost use Rattle.heads.specs.View.{cols, rowAt, foursOf, leftAt};
+ghost use Rattle.heads.specs.Least.{headOf, sooner, bestAt, betterOf, leastIn};
+ghost use Rattle.heads.specs.Load.{opensAt, loadOne, wrongFirst, unlessWrongIn, LoadsAs};
+ghost use Rattle.heads.specs.Move.{endsAt, bestRecord, nextRecord, checkOf, takes, moveOf, behindBy, PlacedIn, Placed, nextOf};
+ghost use Rattle.lists.specs.Lists.{Says};
+use rules::Base;
+use rules::End;
+use rules::Stream;
+
+// The heads as a run carries them: of each stream its head's chromosome, start, stop and row, whether it has ended, the place of the row
+// behind its head in the lent columns, and where its rows begin and end there.
+pub struct Heads {
+    pub chrom: [u64; 8],
+    pub start: [u64; 8],
+    pub stop: [u64; 8],
+    pub row: [u64; 8],
+    pub ended: [bool; 8],
+    pub next: [usize; 8],
+    pub from: [usize; 8],
+    pub to: [usize; 8],
+    pub streams: usize,
+}
+
+// A head and its stream's place; 8 where there is none.
+pub struct Best {
+    pub at: usize,
+    pub chrom: u64,
+    pub start: u64,
+    pub stop: u64,
+    pub row: u64,
+}
+
+// A head that is taken: its stream's place, whether it is live for the base, its row, start and stop.
+pub struct Taken {
+    pub at: usize,
+    pub live: bool,
+    pub row: u64,
+    pub start: u64,
+    pub stop: u64,
+}
+
+// A row that was read, and the place after it in the lent columns.
+pub struct Next {
+    pub chrom: u64,
+    pub start: u64,
+    pub stop: u64,
+    pub row: u64,
+    pub next: usize,
+}
+
+// What is wrong with a row, if anything.
+pub enum Check {
+    Fine,
+    Wrong(End),
+}
+
+// What a turn of a pull comes to.
+pub enum Move {
+    // No head is to be taken.
+    Stay,
+    // The row behind the head that is to be taken is at fault.
+    Wrong(End),
+    // A head is taken, and its stream has ended.
+    Ends(Taken),
+    // A head is taken, and the row behind it is its stream's head.
+    Goes(Taken, Next),
+}
+
+// The heads after loading, and what was wrong, if anything.
+pub struct Loaded {
+    pub heads: Heads,
+    pub wrong: Check,
+}
+
+// A place as a number of rows.
+fn number(x: usize) -> u64
+    ensures { λ r. ⌜ r ≡ x ⌝ }
+{
+    x as u64
+}
+
+// The heads as eight four-number arrays.
+pub fn fours(chrom: [u64; 8], start: [u64; 8], stop: [u64; 8], row: [u64; 8]) -> [[u64; 4]; 8]
+    ensures { λ q. ⌜ q ≡ foursOf chrom start stop row ⌝ }
+{
+    [
+        [chrom[0], start[0], stop[0], row[0]],
+        [chrom[1], start[1], stop[1], row[1]],
+        [chrom[2], start[2], stop[2], row[2]],
+        [chrom[3], start[3], stop[3], row[3]],
+        [chrom[4], start[4], stop[4], row[4]],
+        [chrom[5], start[5], stop[5], row[5]],
+        [chrom[6], start[6], stop[6], row[6]],
+        [chrom[7], start[7], stop[7], row[7]],
+    ]
+}
+
+// Whether a head is before four numbers, by chromosome, start and stop.
+fn is_sooner(b: Best, x: [u64; 4]) -> bool
+    ensures { λ r. ⌜ r ≡ sooner b x ⌝ }
+{
+    if b.chrom < x[0] {
+        return true;
+    }
+    if x[0] < b.chrom {
+        return false;
+    }
+    if b.start < x[1] {
+        return true;
+    }
+    if x[1] < b.start {
+        return false;
+    }
+    b.stop < x[2]
+}
+
+// Four numbers as the head of stream k.
+fn best_at(k: usize, x: [u64; 4]) -> Best
+    ensures { λ r. ⌜ r ≡ bestAt k x ⌝ }
+{
+    Best {
+        at: k,
+        chrom: x[0],
+        start: x[1],
+        stop: x[2],
+        row: x[3],
+    }
+}
+
+// The better of stream k's head and the best of the streams after it: the earlier stream's, unless the other is before it.
+fn better(k: usize, n: usize, x: [u64; 4], dead: bool, b: Best) -> Best
+    ensures { λ r. ⌜ r ≡ betterOf k n x dead b ⌝ }
+{
+    if n <= k {
+        return b;
+    }
+    if dead {
+        return b;
+    }
+    if b.at == 8 {
+        return best_at(k, x);
+    }
+    if is_sooner(b, x) {
+        return b;
+    }
+    best_at(k, x)
+}
+
+// The least head of n streams, the earlier stream's of equal ones.
+pub fn least_of(q: [[u64; 4]; 8], ended: [bool; 8], n: usize) -> Best
+    requires { ⌜ n ≤ 8 ⌝ }
+    ensures { λ r. ⌜ r ≡ leastIn q ended n ⌝ }
+{
+    let none = Best {
+        at: 8,
+        chrom: 0,
+        start: 0,
+        stop: 0,
+        row: 0,
+    };
+    if n <= 2 {
+        let one = better(1, n, q[1], ended[1], none);
+        return better(0, n, q[0], ended[0], one);
+    }
+    let seven = better(7, n, q[7], ended[7], none);
+    let six = better(6, n, q[6], ended[6], seven);
+    let five = better(5, n, q[5], ended[5], six);
+    let four = better(4, n, q[4], ended[4], five);
+    let three = better(3, n, q[3], ended[3], four);
+    let two = better(2, n, q[2], ended[2], three);
+    let one = better(1, n, q[1], ended[1], two);
+    better(0, n, q[0], ended[0], one)
+}
+
+// Whether a head is taken at a base: it lies on an earlier chromosome, or on the base's with start < base stop.
+pub fn is_taken(b: Base, h: Best) -> bool
+    ensures { λ r. ⌜ r ≡ taken b (bestRecord h) ⌝ }
+{
+    let c = b.chrom;
+    if h.chrom < c.0 {
+        return true;
+    }
+    if c.0 < h.chrom {
+        return false;
+    }
+    h.start < b.stop
+}
+
+// Whether a head is live for a base: it is on the base's chromosome and ends after base start.
+pub fn is_live(b: Base, h: Best) -> bool
+    ensures { λ r. ⌜ r ≡ live b (bestRecord h) ⌝ }
+{
+    let c = b.chrom;
+    if h.chrom == c.0 {
+        return b.start < h.stop;
+    }
+    false
+}
+
+// 7 and 8, with stream and row.
+fn faulty(k: usize, row: u64) -> Check
+    ensures { λ r. ⌜ r ≡ Check.Wrong (End.Faulty (record { 0 = k }) row) ⌝ }
+{
+    Check::Wrong(End::Faulty(Stream(number(k)), row))
+}
+
+fn unsorted(k: usize, row: u64) -> Check
+    ensures { λ r. ⌜ r ≡ Check.Wrong (End.Unsorted (record { 0 = k }) row) ⌝ }
+{
+    Check::Wrong(End::Unsorted(Stream(number(k)), row))
+}
+
+// What is wrong with the first row of stream k, of n chromosomes: 7.
+fn check_first(n: u64, k: usize, x: Next) -> Check
+    ensures { λ r. ⌜ r ≡ checkOf (fault n none (nextRecord k x)) ⌝ }
+{
+    if n <= x.chrom {
+        return faulty(k, x.row);
+    }
+    if x.stop < x.start {
+        return faulty(k, x.row);
+    }
+    Check::Fine
+}
+
+// What is wrong with the row behind a head: 7, then 8.
+fn check_behind(n: u64, h: Best, x: Next) -> Check
+    ensures { λ r. ⌜ r ≡ checkOf (fault n (some (bestRecord h .it)) (nextRecord (h .at) x)) ⌝ }
+{
+    let k = h.at;
+    let first = check_first(n, k, x);
+    match first {
+        Check::Wrong(e) => Check::Wrong(e),
+        Check::Fine => {
+            if h.chrom < x.chrom {
+                return Check::Fine;
+            }
+            if x.chrom < h.chrom {
+                return unsorted(k, x.row);
+            }
+            if x.start < h.start {
+                return unsorted(k, x.row);
+            }
+            Check::Fine
+        }
+    }
+}
+
+// The row at a place of the columns, in a stream whose rows begin at `first`.
+fn read_row(at: usize, first: usize, chrom: &[u64], start: &[u64], stop: &[u64]) -> Next
+    requires { ⌜ (first ≤ at) × (at < length (now chrom)) × (length (now start) ≡ length (now chrom)) × (length (now stop) ≡ length (now chrom)) ⌝ }
+    ensures { λ r. ⌜ r ≡ nextOf (rowAt (cols (now (chrom .entry)) (now (start .entry)) (now (stop .entry))) first 0 at) (at + 1) ⌝ }
+{
+    Next {
+        chrom: chrom[at],
+        start: start[at],
+        stop: stop[at],
+        row: number(at - first),
+        next: at + 1,
+    }
+}
+
+// A head is taken, and the row behind it is read and checked.
+fn follow(
+    t: Taken,
+    h: Best,
+    at: usize,
+    first: usize,
+    n: u64,
+    chrom: &[u64],
+    start: &[u64],
+    stop: &[u64],
+) -> Move
+    requires { ⌜ (first ≤ at) × (at < length (now chrom)) × (length (now start) ≡ length (now chrom)) × (length (now stop) ≡ length (now chrom)) ⌝ }
+    ensures { λ r. ⌜ r ≡ takes t (at + 1) (fault n (some (bestRecord h .it)) (rowAt (cols (now (chrom .entry)) (now (start .entry)) (now (stop .entry))) first (h .at) at)) (rowAt (cols (now (chrom .entry)) (now (start .entry)) (now (stop .entry))) first (h .at) at ∷ []) ⌝ }
+{
+    let x = read_row(at, first, chrom, start, stop);
+    let w = check_behind(n, h, x);
+    match w {
+        Check::Wrong(e) => Move::Wrong(e),
+        Check::Fine => Move::Goes(t, x),
+    }
+}
+
+// Whether the streams' rows are among the lent ones, of the three columns' lengths.
+pub fn is_placed<'a>(
+    streams: usize,
+    next: &'a [usize; 8],
+    from: &'a [usize; 8],
+    to: &'a [usize; 8],
+    chroms: usize,
+    starts: usize,
+    stops: usize,
+) -> bool
+    ensures { λ r. ⌜ Says r (PlacedIn chroms starts stops streams (now (next .entry)) (now (from .entry)) (now (to .entry))) ⌝ }
+{
+    if 8 < streams {
+        return false;
+    }
+    if starts != chroms {
+        return false;
+    }
+    if stops != chroms {
+        return false;
+    }
+    let mut k: usize = 0;
+    while k < streams {
+        if next[k] < from[k] {
+            return false;
+        }
+        if chroms < to[k] {
+            return false;
+        }
+        k += 1;
+    }
+    true
+}
+
+// What the next turn of a pull at a base comes to. The heads are q, the streams' next rows, first places and ends are lent, and so are the
+// columns; n is the number of chromosomes.
+pub fn decide<'a>(
+    q: [[u64; 4]; 8],
+    ended: [bool; 8],
+    streams: usize,
+    next: &'a [usize; 8],
+    from: &'a [usize; 8],
+    to: &'a [usize; 8],
+    b: Base,
+    n: u64,
+    chrom: &[u64],
+    start: &[u64],
+    stop: &[u64],
+) -> Move
+    requires { ⌜ Placed (cols (now chrom) (now start) (now stop)) streams (now next) (now from) (now to) ⌝ }
+    ensures { λ r. ⌜ r ≡ moveOf n b (now (next .entry)) (pick ahead (build (leftAt q ended (behindBy (cols (now (chrom .entry)) (now (start .entry)) (now (stop .entry))) (now (next .entry)) (now (from .entry)) (now (to .entry)))) streams 0)) ⌝ }
+{
+    let h = least_of(q, ended, streams);
+    let k = h.at;
+    if k == 8 {
+        return Move::Stay;
+    }
+    if !is_taken(b, h) {
+        return Move::Stay;
+    }
+    let t = Taken {
+        at: k,
+        live: is_live(b, h),
+        row: h.row,
+        start: h.start,
+        stop: h.stop,
+    };
+    let at = next[k];
+    if to[k] <= at {
+        return Move::Ends(t);
+    }
+    let first = from[k];
+    follow(t, h, at, first, n, chrom, start, stop)
+}
+
+impl Heads {
+    // The heads with stream k ended.
+    fn with_end(self, k: usize) -> Heads
+        requires { ⌜ k < 8 ⌝ }
+        ensures { λ r. ⌜ r ≡ endsAt self k ⌝ }
+    {
+        let mut h = self;
+        h.ended[k] = true;
+        h
+    }
+
+    // The heads with a first head on stream k.
+    fn with_first(self, k: usize, x: Next) -> Heads
+        requires { ⌜ k < 8 ⌝ }
+        ensures { λ r. ⌜ r ≡ opensAt self k x ⌝ }
+    {
+        let mut h = self;
+        h.chrom[k] = x.chrom;
+        h.start[k] = x.start;
+        h.stop[k] = x.stop;
+        h.row[k] = x.row;
+        h.ended[k] = false;
+        h.next[k] = x.next;
+        h
+    }
+
+    // The first head of stream k is read and checked.
+    fn begin(self, k: usize, n: u64, chrom: &[u64], start: &[u64], stop: &[u64]) -> Loaded
+        requires { ⌜ Placed (cols (now chrom) (now start) (now stop)) (self .streams) (self .next) (self .from) (self .to) × (k < self .streams) ⌝ }
+        ensures { λ r. ⌜ r ≡ unlessWrongIn (wrongFirst (cols (now (chrom .entry)) (now (start .entry)) (now (stop .entry))) n self k) (loadOne (cols (now (chrom .entry)) (now (start .entry)) (now (stop .entry))) self k) self ⌝ }
+    {
+        let at = self.next[k];
+        let first = self.from[k];
+        if self.to[k] <= at {
+            return Loaded {
+                heads: self.with_end(k),
+                wrong: Check::Fine,
+            };
+        }
+        let x = read_row(at, first, chrom, start, stop);
+        let w = check_first(n, k, x);
+        match w {
+            Check::Wrong(e) => Loaded {
+                heads: self,
+                wrong: Check::Wrong(e),
+            },
+            Check::Fine => Loaded {
+                heads: self.with_first(k, x),
+                wrong: Check::Fine,
+            },
+        }
+    }
+
+    // The first head of each stream is read, stream 0 first; at the first fault the heads are as they were.
+    pub fn load(self, n: u64, chrom: &[u64], start: &[u64], stop: &[u64]) -> Loaded
+        requires { ⌜ Placed (cols (now chrom) (now start) (now stop)) (self .streams) (self .next) (self .from) (self .to) ⌝ }
+        ensures { λ r. ⌜ LoadsAs (cols (now (chrom .entry)) (now (start .entry)) (now (stop .entry))) n self r ⌝ }
+    {
+        let m = self.streams;
+        let mut h = self;
+        let mut k: usize = 0;
+        while k < m {
+            let t = h.begin(k, n, chrom, start, stop);
+            let w = t.wrong;
+            match w {
+                Check::Wrong(e) => {
+                    return Loaded {
+                        heads: self,
+                        wrong: Check::Wrong(e),
+                    };
+                }
+                Check::Fine => {}
+            }
+            h = t.heads;
+            k += 1;
+        }
+        Loaded {
+            heads: h,
+            wrong: Check::Fine,
+        }
+    }
+}

@@ -1,0 +1,2 @@
+-- Laws for the loop over the heads.
+pub mod Turning

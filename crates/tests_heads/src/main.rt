@@ -1,0 +1,239 @@
+// Takes the heads of some streams base by base, and prints each head that is taken: eight equal heads, an empty stream, a stream of one row,
+// rows at fault.
+ghost use mathlib.Core.Path.{_≡_};
+ghost use Prim.Native.Nat.{_≤_, _<_};
+ghost use Rattle.heads.specs.View.{cols};
+ghost use Rattle.heads.specs.Move.{Placed};
+use heads::Check;
+use heads::Heads;
+use heads::Move;
+use heads::Taken;
+use libc::STDOUT_FILENO;
+use rules::Base;
+use rules::Chrom;
+use rules::End;
+
+fn print_pair(mark: &[u8], a: u64, b: u64) {
+    io::write_all(STDOUT_FILENO, mark);
+    io::print_decimal(STDOUT_FILENO, a);
+    io::write_all(STDOUT_FILENO, b" ");
+    io::print_decimal(STDOUT_FILENO, b);
+    io::write_all(STDOUT_FILENO, b"\n");
+}
+
+// What ends a run, with its stream and row.
+fn print_end(e: End) {
+    match e {
+        End::Faulty(s, row) => print_pair(b"7: ", s.0, row),
+        End::Unsorted(s, row) => print_pair(b"8: ", s.0, row),
+        End::NoRoom => {}
+        End::NoRows => {}
+    }
+}
+
+// A head that is taken: its stream and row, and whether it is live.
+fn print_taken(t: Taken) {
+    if t.live {
+        print_pair(b"live ", t.at as u64, t.row);
+        return;
+    }
+    print_pair(b"dead ", t.at as u64, t.row);
+}
+
+// All heads that a base takes.
+fn take_all(h0: Heads, b: Base, n: u64, chrom: &[u64], start: &[u64], stop: &[u64]) -> Heads
+    requires { ⌜ Placed (cols (now chrom) (now start) (now stop)) (h0 .streams) (h0 .next) (h0 .from) (h0 .to) ⌝ }
+    ensures { λ r. ⌜ Placed (cols (now (chrom .entry)) (now (start .entry)) (now (stop .entry))) (r .streams) (r .next) (r .from) (r .to) ⌝ }
+{
+    let mut h = h0;
+    loop {
+        let c = h.chrom;
+        let a = h.start;
+        let e = h.stop;
+        let r = h.row;
+        let q = heads::fours(c, a, e, r);
+        let ended = h.ended;
+        let m = heads::decide(
+            q,
+            ended,
+            h.streams,
+            &h.next,
+            &h.from,
+            &h.to,
+            b,
+            n,
+            chrom,
+            start,
+            stop,
+        );
+        match m {
+            Move::Stay => {
+                return h;
+            }
+            Move::Wrong(x) => {
+                print_end(x);
+                return h;
+            }
+            Move::Ends(t) => {
+                print_taken(t);
+                let k = t.at;
+                h.ended[k] = true;
+            }
+            Move::Goes(t, x) => {
+                print_taken(t);
+                let k = t.at;
+                h.chrom[k] = x.chrom;
+                h.start[k] = x.start;
+                h.stop[k] = x.stop;
+                h.row[k] = x.row;
+                h.next[k] = x.next;
+            }
+        }
+    }
+}
+
+fn base(chrom: u64, start: u64, stop: u64) -> Base {
+    Base {
+        chrom: Chrom(chrom),
+        start: start,
+        stop: stop,
+    }
+}
+
+// Loads the heads of some streams, and takes those of two bases.
+fn run(
+    streams: usize,
+    from: [usize; 8],
+    to: [usize; 8],
+    chrom: &[u64],
+    start: &[u64],
+    stop: &[u64],
+    first: Base,
+    second: Base,
+) {
+    let h = Heads {
+        chrom: [0; 8],
+        start: [0; 8],
+        stop: [0; 8],
+        row: [0; 8],
+        ended: [false; 8],
+        next: from,
+        from: from,
+        to: to,
+        streams: streams,
+    };
+    if !heads::is_placed(
+        streams,
+        &h.next,
+        &h.from,
+        &h.to,
+        chrom.len(),
+        start.len(),
+        stop.len(),
+    ) {
+        io::write_all(STDOUT_FILENO, b"not placed\n");
+        return;
+    }
+    let l = h.load(2, chrom, start, stop);
+    let w = l.wrong;
+    match w {
+        Check::Wrong(e) => print_end(e),
+        Check::Fine => {
+            let g = l.heads;
+            let after = take_all(g, first, 2, chrom, start, stop);
+            io::write_all(STDOUT_FILENO, b"then\n");
+            take_all(after, second, 2, chrom, start, stop);
+        }
+    }
+}
+
+fn main() {
+    io::write_all(STDOUT_FILENO, b"eight equal heads\n");
+    run(
+        8,
+        [0, 1, 2, 3, 4, 5, 6, 7],
+        [1, 2, 3, 4, 5, 6, 7, 8],
+        &[0; 8],
+        &[5; 8],
+        &[9; 8],
+        base(0, 0, 10),
+        base(0, 20, 30),
+    );
+    io::write_all(STDOUT_FILENO, b"an empty stream, one row, three rows\n");
+    run(
+        3,
+        [0, 0, 1, 0, 0, 0, 0, 0],
+        [0, 1, 4, 0, 0, 0, 0, 0],
+        &[0, 0, 0, 1],
+        &[5, 5, 5, 0],
+        &[9, 9, 7, 4],
+        base(0, 8, 10),
+        base(1, 0, 1),
+    );
+    io::write_all(STDOUT_FILENO, b"touching, and a later chromosome\n");
+    run(
+        1,
+        [0; 8],
+        [3, 0, 0, 0, 0, 0, 0, 0],
+        &[0, 0, 1],
+        &[0, 10, 3],
+        &[10, 20, 8],
+        base(0, 5, 10),
+        base(0, 10, 20),
+    );
+    io::write_all(STDOUT_FILENO, b"a row at fault behind a head\n");
+    run(
+        2,
+        [0, 2, 0, 0, 0, 0, 0, 0],
+        [2, 3, 0, 0, 0, 0, 0, 0],
+        &[0, 0, 0],
+        &[5, 9, 6],
+        &[9, 8, 7],
+        base(0, 0, 6),
+        base(0, 0, 7),
+    );
+    io::write_all(STDOUT_FILENO, b"7 before 8\n");
+    run(
+        1,
+        [0; 8],
+        [2, 0, 0, 0, 0, 0, 0, 0],
+        &[0, 0],
+        &[10, 5],
+        &[20, 3],
+        base(0, 0, 100),
+        base(0, 0, 100),
+    );
+    io::write_all(STDOUT_FILENO, b"a chromosome that goes back\n");
+    run(
+        1,
+        [0; 8],
+        [2, 0, 0, 0, 0, 0, 0, 0],
+        &[1, 0],
+        &[5, 10],
+        &[9, 12],
+        base(1, 0, 10),
+        base(1, 0, 10),
+    );
+    io::write_all(STDOUT_FILENO, b"a first row at fault\n");
+    run(
+        2,
+        [0, 1, 0, 0, 0, 0, 0, 0],
+        [1, 2, 0, 0, 0, 0, 0, 0],
+        &[0, 2],
+        &[5, 5],
+        &[9, 9],
+        base(0, 0, 10),
+        base(0, 0, 10),
+    );
+    io::write_all(STDOUT_FILENO, b"rows that are not lent\n");
+    run(
+        1,
+        [0; 8],
+        [3, 0, 0, 0, 0, 0, 0, 0],
+        &[0, 0],
+        &[5, 5],
+        &[9, 9],
+        base(0, 0, 10),
+        base(0, 0, 10),
+    );
+}
