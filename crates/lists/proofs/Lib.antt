@@ -3,3 +3,4 @@ pub mod BoolLaws
 pub mod ListLaws
 pub mod LexLaws
 pub mod BuildLaws
+pub mod EdgeLaws

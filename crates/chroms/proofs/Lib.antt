@@ -1,0 +1,3 @@
+-- Laws of chromosome lines and of the check of a list.
+pub mod Entries
+pub mod Checks

@@ -1,0 +1,3 @@
+-- What a chromosome list is, and when it is refused.
+pub mod Entry
+pub mod Check

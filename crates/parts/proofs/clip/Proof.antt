@@ -1,0 +1,16 @@
+-- `parts::clip` meets its contract: the two fields are what `larger` and `smaller` ensure. Assumes nothing.
+use borrow.Author.Needs.{needs}
+use Rattle.parts.proofs.clip.Statement.{statement}
+use Rattle.parts.proofs.clip.Tie as tie
+
+larger-requires : tie.Need-larger-requires
+larger-requires c κs = search needs
+
+smaller-requires : tie.Need-smaller-requires
+smaller-requires c κs = search needs
+
+returns : tie.Need-returns
+returns c = cc
+
+pub clip-spec : {M : Type 1} → statement M
+clip-spec = tie.close (tie.spec larger-requires smaller-requires returns)

@@ -1,0 +1,107 @@
+-- `parts::fragments` meets its contract: a refusal leaves the columns; else `lay` wrote the layout, which reads back as the fragments. Assumes nothing.
+use Rattle.parts.proofs.Answers.{sized, ready, written, refused}
+use Rattle.parts.specs.Promise.{lensOf}
+use Rattle.parts.specs.Valid.{sizedOf}
+use Rattle.parts.specs.Layout.{columns}
+use Rattle.parts.specs.declared.Refusal.the-variants.{Sizes}
+use denote.Ref.{now}
+use borrow.Author.Tests.{not-true, not-false}
+use mathlib.Core.Bool.{true, false}
+use mathlib.Core.Path.{_≡_, sym, _∙_}
+use borrow.Author.Needs.{needs}
+use Rattle.parts.proofs.fragments.Statement.{statement}
+use Rattle.parts.proofs.fragments.Tie as tie
+
+is-sized-requires : tie.Need-is-sized-requires
+is-sized-requires c κs = search needs
+
+returns : tie.Need-returns
+returns c =
+    let a = c .before .before .before .before .before .before .before .before .before .before .before .args in
+    let cs = (columns (now (a .present)) (now (a .bstart)) (now (a .bstop)) (now (a .from)) (now (a .to)) (now (a .pstart)) (now (a .pstop))) in
+    let s : sizedOf (lensOf (now (a .starts)) (now (a .stops)) cs) ≡ false = sym (c .before .is-sized .ensures) ∙ not-true _ (c .if1 .taken) in
+    refused (a .a) (a .b) (a .base) (now (a .starts)) (now (a .stops)) cs Sizes (rw s)
+
+rule-of-requires : tie.Need-rule-of-requires
+rule-of-requires c κs = search needs
+
+judge-requires : tie.Need-judge-requires
+judge-requires c κs =
+    let a = c .before .before .before .before .before .before .before .before .before .before .before .before .args in
+    let cs = (columns (now (a .present)) (now (a .bstart)) (now (a .bstop)) (now (a .from)) (now (a .to)) (now (a .pstart)) (now (a .pstop))) in
+    let s : sizedOf (lensOf (now (a .starts)) (now (a .stops)) cs) ≡ true = sym (c .before .before .is-sized .ensures) ∙ not-false _ (c .before .if1 .left) in
+    sized (lensOf (now (a .starts)) (now (a .stops)) cs) s .records
+
+enum-known-answer : tie.Need-enum-known-answer
+enum-known-answer c = search needs
+
+lay-requires : tie.Need-lay-requires
+lay-requires c κs =
+    let a = c .before .before .before .before .before .before .before .before .before .before .before .before .before .before .before .before .before .before .before .before .before .before .before .args in
+    let cs = (columns (now (a .present)) (now (a .bstart)) (now (a .bstop)) (now (a .from)) (now (a .to)) (now (a .pstart)) (now (a .pstop))) in
+    let s : sizedOf (lensOf (now (a .starts)) (now (a .stops)) cs) ≡ true = sym (c .before .before .before .before .before .before .before .before .before .before .before .before .before .is-sized .ensures) ∙ not-false _ (c .before .before .before .before .before .before .before .before .before .before .before .before .if1 .left) in
+    let e = sym (c .before .before .before .before .before .before .before .before .answer .given .1) ∙ c .before .before .before .before .before .before .before .before .before .before .judge .ensures in (
+      sized (lensOf (now (a .starts)) (now (a .stops)) cs) s .records,
+      rw (c .before .before .before .before .before .before .before .before .before .before .before .rule-of .ensures) (ready (a .a) (a .b) (a .base) (now (a .starts)) (now (a .stops)) cs s (rw (c .before .before .before .before .before .before .before .before .before .before .before .rule-of .ensures) at e)),
+    )
+
+enum-known-answer-2 : tie.Need-enum-known-answer-2
+enum-known-answer-2 c = search needs
+
+same-length : tie.Need-same-length
+same-length c = search needs
+
+same-length-2 : tie.Need-same-length-2
+same-length-2 c = search needs
+
+same-length-3 : tie.Need-same-length-3
+same-length-3 c = search needs
+
+same-length-4 : tie.Need-same-length-4
+same-length-4 c = search needs
+
+same-length-5 : tie.Need-same-length-5
+same-length-5 c = search needs
+
+same-length-6 : tie.Need-same-length-6
+same-length-6 c = search needs
+
+same-length-7 : tie.Need-same-length-7
+same-length-7 c = search needs
+
+returns-2 : tie.Need-returns-2
+returns-2 c =
+    let a = c .before .before .before .before .before .before .before .before .before .before .before .before .before .before .before .before .before .before .before .before .before .before .before .before .before .before .before .before .before .before .before .before .before .before .before .before .before .before .args in
+    let cs = (columns (now (a .present)) (now (a .bstart)) (now (a .bstop)) (now (a .from)) (now (a .to)) (now (a .pstart)) (now (a .pstop))) in
+    let s : sizedOf (lensOf (now (a .starts)) (now (a .stops)) cs) ≡ true = sym (c .before .before .before .before .before .before .before .before .before .before .before .before .before .before .before .before .before .before .before .before .before .before .before .before .before .before .before .before .is-sized .ensures) ∙ not-false _ (c .before .before .before .before .before .before .before .before .before .before .before .before .before .before .before .before .before .before .before .before .before .before .before .before .before .before .before .if1 .left) in
+    let e = sym (c .before .before .before .before .before .before .before .before .before .before .before .before .before .before .before .before .before .before .before .before .before .before .before .answer .given .1) ∙ c .before .before .before .before .before .before .before .before .before .before .before .before .before .before .before .before .before .before .before .before .before .before .before .before .before .judge .ensures in
+    written (a .a) (a .b) (a .base) (now (a .starts)) (now (a .stops)) cs s (rw (c .before .before .before .before .before .before .before .before .before .before .before .before .before .before .before .before .before .before .before .before .before .before .before .before .before .before .rule-of .ensures) at e) (rw (c .before .before .before .before .before .before .before .before .before .before .before .before .before .before .before .before .before .before .before .before .before .before .before .before .before .before .rule-of .ensures) at (c .before .before .before .before .before .before .before .before .before .before .before .before .before .before .lay .ensures))
+
+returns-3 : tie.Need-returns-3
+returns-3 c =
+    let a = c .before .before .before .before .before .before .before .before .before .before .before .before .before .before .before .before .args in
+    let cs = (columns (now (a .present)) (now (a .bstart)) (now (a .bstop)) (now (a .from)) (now (a .to)) (now (a .pstart)) (now (a .pstop))) in
+    let s : sizedOf (lensOf (now (a .starts)) (now (a .stops)) cs) ≡ true = sym (c .before .before .before .before .before .before .is-sized .ensures) ∙ not-false _ (c .before .before .before .before .before .if1 .left) in
+    let e = sym (c .before .answer2 .given .1) ∙ c .before .before .before .judge .ensures in
+    refused (a .a) (a .b) (a .base) (now (a .starts)) (now (a .stops)) cs _ (rw s (rw (c .before .before .before .before .rule-of .ensures) at e))
+
+pub fragments-spec : {M : Type 1} → statement M
+fragments-spec =
+    tie.close
+    (tie.spec
+    is-sized-requires
+    returns
+    rule-of-requires
+    judge-requires
+    enum-known-answer
+    lay-requires
+    enum-known-answer-2
+    same-length
+    same-length-2
+    same-length-3
+    same-length-4
+    same-length-5
+    same-length-6
+    same-length-7
+    returns-2
+    returns-3)

@@ -1,0 +1,83 @@
+-- `parts::put_pieces` meets its contract: a case for each way to give. Assumes nothing.
+use Rattle.parts.proofs.Writing.{puts-none}
+use native.Mathlib.Omega.{arith}
+use borrow.Author.Needs.{needs}
+use Rattle.parts.proofs.put_pieces.Statement.{statement}
+use Rattle.parts.proofs.put_pieces.Tie as tie
+
+enum-told : tie.Need-enum-told
+enum-told c = search needs
+
+enum-told-2 : tie.Need-enum-told-2
+enum-told-2 c = search needs
+
+put-span-requires : tie.Need-put-span-requires
+put-span-requires c κs = omega (arith, (rw (c .before .before .enum-told2 .given .1) at (c .before .before .before .before .before .before .pre)) .starts-fit, (rw (c .before .before .enum-told2 .given .1) at (c .before .before .before .before .before .before .pre)) .stops-fit)
+
+enum-told-3 : tie.Need-enum-told-3
+enum-told-3 c = search needs
+
+clip-requires : tie.Need-clip-requires
+clip-requires c κs = search needs
+
+put-span-requires-2 : tie.Need-put-span-requires-2
+put-span-requires-2 c κs = omega (arith, (rw (c .before .before .before .enum-told3 .given .1) at (c .before .before .before .before .before .before .before .pre)) .starts-fit, (rw (c .before .before .before .enum-told3 .given .1) at (c .before .before .before .before .before .before .before .pre)) .stops-fit)
+
+enum-told-4 : tie.Need-enum-told-4
+enum-told-4 c = search needs
+
+put-outside-requires : tie.Need-put-outside-requires
+put-outside-requires c κs = rw (c .before .before .enum-told4 .given .1) at (c .before .before .before .before .before .before .pre)
+
+returns : tie.Need-returns
+returns c = rw (c .enum-told .given .1) (puts-none _ _ _)
+
+same-length : tie.Need-same-length
+same-length c = search needs
+
+same-length-2 : tie.Need-same-length-2
+same-length-2 c = search needs
+
+returns-2 : tie.Need-returns-2
+returns-2 c = rw (c .before .before .before .before .before .before .before .enum-told2 .given .1) (c .before .before .before .before .put-span .ensures)
+
+same-length-3 : tie.Need-same-length-3
+same-length-3 c = search needs
+
+same-length-4 : tie.Need-same-length-4
+same-length-4 c = search needs
+
+returns-3 : tie.Need-returns-3
+returns-3 c = rw (c .before .before .before .before .before .before .before .before .enum-told3 .given .1) (rw (c .before .before .before .before .before .before .before .clip .ensures) at (c .before .before .before .before .put-span2 .ensures))
+
+same-length-5 : tie.Need-same-length-5
+same-length-5 c = search needs
+
+same-length-6 : tie.Need-same-length-6
+same-length-6 c = search needs
+
+returns-4 : tie.Need-returns-4
+returns-4 c = rw (c .before .before .before .before .before .before .before .enum-told4 .given .1) (c .before .before .before .before .put-outside .ensures)
+
+pub put-pieces-spec : {M : Type 1} → statement M
+put-pieces-spec =
+    tie.close
+    (tie.spec
+    enum-told
+    enum-told-2
+    put-span-requires
+    enum-told-3
+    clip-requires
+    put-span-requires-2
+    enum-told-4
+    put-outside-requires
+    returns
+    same-length
+    same-length-2
+    returns-2
+    same-length-3
+    same-length-4
+    returns-3
+    same-length-5
+    same-length-6
+    returns-4)

@@ -1,0 +1,74 @@
+-- `base_step`: clearing leaves what a scan asks, and a scan writes no more rows than wait.
+use native.Mathlib.Omega.{arith}
+use borrow.Author.Needs.{needs}
+use Rattle.queue.proofs.Calls.{cleared-live, scan-few}
+use Rattle.tests_queue.proofs.base_step.Statement.{statement}
+use Rattle.tests_queue.proofs.base_step.Tie as tie
+
+show-base-requires : tie.Need-show-base-requires
+show-base-requires c κs = search needs
+
+clear-requires : tie.Need-clear-requires
+clear-requires c κs = search needs
+
+scan-requires : tie.Need-scan-requires
+scan-requires c κs =
+    let at-clear = c .before .before .before .before .before .before .before .before .before .before .before .before .before .before in
+    let at-start = at-clear .before .before .before .before .before .before .before .before .before .before .before .before in
+    record { fair = at-clear .clear .ensures .fair; cleared = cleared-live (at-start .args .b) (at-clear .clear .ensures); streams = omega (arith, at-clear .clear .ensures .room, at-start .pre .streams); rows = omega (arith, at-clear .clear .ensures .room, at-start .pre .rows) }
+
+show-hits-requires : tie.Need-show-hits-requires
+show-hits-requires c κs =
+    let at-scan = c .before .before .before .before .before .before in
+    let at-clear = at-scan .before .before .before .before .before .before .before .before .before .before .before .before .before .before .before in
+    let at-start = at-clear .before .before .before .before .before .before .before .before .before .before .before .before in
+    omega (arith, scan-few (at-clear .clear .result) _ (at-start .args .b) (at-scan .scan .ensures), at-clear .clear .ensures .fair .sound .fits, at-clear .clear .ensures .room, at-start .pre .streams, at-start .pre .rows, at-scan .scan .kept)
+
+front-requires : tie.Need-front-requires
+front-requires c κs = search needs
+
+show-front-requires : tie.Need-show-front-requires
+show-front-requires c κs = search needs
+
+show-requires : tie.Need-show-requires
+show-requires c κs = search needs
+
+same-length : tie.Need-same-length
+same-length c = search needs
+
+same-length-2 : tie.Need-same-length-2
+same-length-2 c = search needs
+
+same-length-3 : tie.Need-same-length-3
+same-length-3 c = search needs
+
+same-length-4 : tie.Need-same-length-4
+same-length-4 c = search needs
+
+same-length-5 : tie.Need-same-length-5
+same-length-5 c = search needs
+
+same-length-6 : tie.Need-same-length-6
+same-length-6 c = search needs
+
+returns : tie.Need-returns
+returns c = search needs
+
+pub base-step-spec : {M : Type 1} → statement M
+base-step-spec =
+    tie.close
+    (tie.spec
+    show-base-requires
+    clear-requires
+    scan-requires
+    show-hits-requires
+    front-requires
+    show-front-requires
+    show-requires
+    same-length
+    same-length-2
+    same-length-3
+    same-length-4
+    same-length-5
+    same-length-6
+    returns)
