@@ -147,7 +147,8 @@ fn run(
     }
 }
 
-fn main() {
+// Heads in order: equal ones, an empty stream, a stream of one row, touching ones.
+fn in_order() {
     io::write_all(STDOUT_FILENO, b"eight equal heads\n");
     run(
         8,
@@ -181,6 +182,10 @@ fn main() {
         base(0, 5, 10),
         base(0, 10, 20),
     );
+}
+
+// Rows at fault: behind a head, by 7 ahead of 8, on an earlier chromosome, first in a stream, not lent.
+fn at_fault() {
     io::write_all(STDOUT_FILENO, b"a row at fault behind a head\n");
     run(
         2,
@@ -236,4 +241,9 @@ fn main() {
         base(0, 0, 10),
         base(0, 0, 10),
     );
+}
+
+fn main() {
+    in_order();
+    at_fault();
 }

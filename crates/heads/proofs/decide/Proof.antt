@@ -1,6 +1,6 @@
+-- `decide` meets its contract: no head, or one that stays; else the row behind it decides.
 use borrow.Author.Tests.{not-true, not-false}
 use Rattle.heads.proofs.MoveLaws.{decided-ends, decided-follows}
--- `decide` meets its contract: no head, or one that stays; else the row behind it decides.
 use mathlib.Core.Path.{_≡_, sym, ap, _∙_}
 use mathlib.Core.List.{List}
 use Prim.Native.Nat.{ℕ, _<_, _≤_, _+_}

@@ -1,5 +1,5 @@
-use Rattle.heads.proofs.MoveLaws.{followed-wrong, followed-fine}
 -- `follow` meets its contract: what is wrong with the row that was read, or the row.
+use Rattle.heads.proofs.MoveLaws.{followed-wrong, followed-fine}
 use mathlib.Core.Path.{_≡_, sym, ap, _∙_}
 use mathlib.Core.Option.{Option, none, some}
 use denote.Ref.{now}
