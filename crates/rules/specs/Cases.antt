@@ -1,5 +1,5 @@
 -- "Boundary cases: Marked * are proved together of the definitions, as a single table with one fact". The easy slips that the document names
--- stand in it too.
+-- stand in it too, and the order of 7 and 8.
 use mathlib.Core.Path.{_≡_, refl}
 use mathlib.Core.Bool.{Bool, true, false, _&&_}
 use mathlib.Core.Option.{Option, none, some}
@@ -137,6 +137,8 @@ cases =
     ∷ case 2 ((one 0 10 ∷ one 5 100 ∷ one 20 30 ∷ []) ∷ []) (one 0 15 ∷ one 15 25 ∷ []) (just (at 0 0 ∷ at 0 1 ∷ []) ∷ just (at 0 1 ∷ at 0 2 ∷ []) ∷ [])
     -- "counting a touching record": it would use up room, too
     ∷ case 1 pair (one 0 50 ∷ []) (just (at 0 0 ∷ []) ∷ [])
+    -- "7 is tested before 8": a row that starts too early and stops before it starts
+    ∷ case 4 ((one 10 20 ∷ one 5 3 ∷ []) ∷ []) (one 0 100 ∷ []) (number 7 ∷ [])
     -- "offering by heads alone": the record that waits lies far behind the second base
     ∷ case 4 ((two 900000 900010 ∷ []) ∷ []) (two 0 1000000 ∷ two 10 20 ∷ []) (just (at 0 0 ∷ []) ∷ rows [] (upto 1 899999) ∷ [])
     ∷ []
