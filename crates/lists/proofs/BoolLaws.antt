@@ -31,6 +31,10 @@ pub and-true : (u v : Bool) → u ≡ true → u && v ≡ v
 and-true u v e = rw e
 
 -- by cases, with the test's equation
+pub or-left : (u v : Bool) → u || v ≡ false → u ≡ false
+or-left true v e = e
+or-left false v e = refl
+
 pub or-cases : {P : Type 0} (u v : Bool) → u || v ≡ true → (u ≡ true → P) → (v ≡ true → P) → P
 or-cases true v e f g = f refl
 or-cases false v e f g = g e

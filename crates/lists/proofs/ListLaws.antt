@@ -46,6 +46,9 @@ module _ {A : Type 0} where
   all-both nil k = nil
   all-both (cons h t) (cons k u) = cons (h, k) (all-both t u)
 
+  pub all-first : {P : A → Type 0} {x : A} {l : List A} → All P (x ∷ l) → P x
+  all-first (cons h k) = h
+
   pub all-append : {P : A → Type 0} {l m : List A} → All P l → All P m → All P (l ++ m)
   all-append nil k = k
   all-append (cons h t) k = cons h (all-append t k)

@@ -19,7 +19,8 @@ use Rattle.rules.specs.declared.Stage.the-variants.{Fresh, After, Over}
 use Rattle.rules.specs.declared.Answer.{Answer}
 use Rattle.rules.specs.declared.Answer.the-variants as answer
 use Rattle.rules.specs.Rows.{Record, numbered}
-use Rattle.rules.specs.Streams.{else, check, next, ahead, taking}
+use Rattle.rules.specs.Merge.{onto, pick}
+use Rattle.rules.specs.Streams.{else, check, next, ahead}
 use Rattle.rules.specs.Overlap.{overlaps, taken, live}
 use Rattle.rules.specs.Pull.{Pull, paused, ends, pull}
 use Rattle.rules.specs.Bases.{judge}
@@ -75,32 +76,39 @@ fresh ss = record { left = numbered 0 ss; queue = []; stage = Fresh }
 abbrev pub refuse : Run → Refusal → Given
 refuse r x = record { run = r; reply = refused x }
 
--- "run ended"
+-- "run ended": nothing is left of any stream and nothing waits
+abbrev pub over : Run → End → Run
+over r e = record { left = map (λ s. []) (r .left); queue = []; stage = Over e }
+
 abbrev pub end : Run → End → Given
-end r e = record { run = record { left = r .left; queue = r .queue; stage = Over e }; reply = ended e }
+end r e = record { run = over r e; reply = ended e }
 
 -- "Heads are loaded at the first accepted base, stream 0 first, each checked; the first fault ends the run."
 abbrev pub loading : ℕ → List (List Record) → Option End
 loading n [] = none
 loading n (s ∷ ss) = else (check n none s) (loading n ss)
 
--- what is queued, and then what is left of the merged list
-abbrev pub coming : ℕ → List (List Record) → List Record → List Record
-coming n left queue = queue ++ map (λ h. h .it) (taking n left)
+-- the least head of what is left
+abbrev pub least : List (List Record) → List Record
+least left = onto (λ ts. []) (pick ahead left)
+
+-- what is queued, and then the least head: where the offer's T is sought
+abbrev pub coming : List (List Record) → List Record → List Record
+coming left queue = queue ++ least left
 
 -- 10: "more records than answer rows"; else the records of the base, and the offer
-abbrev pub reporting : ℕ → ℕ → Run → Base → List (List Record) → List Record → List Record → Given
-reporting n rows r b left queue hits =
+abbrev pub reporting : ℕ → Run → Base → List (List Record) → List Record → List Record → Given
+reporting rows r b left queue hits =
     cond (ltb rows (length hits)) (end r NoRows)
-    (record { run = record { left = left; queue = queue; stage = After b }; reply = found hits (offer (coming n left queue) b) })
+    (record { run = record { left = left; queue = queue; stage = After b }; reply = found hits (offer (coming left queue) b) })
 
-abbrev pub afterPull : ℕ → ℕ → Run → Base → Pull Record End → Given
-afterPull n rows r b (ends e) = end r e
-afterPull n rows r b (paused left queue) = reporting n rows r b left queue (filter (overlaps b) queue)
+abbrev pub afterPull : ℕ → Run → Base → Pull Record End → Given
+afterPull rows r b (ends e) = end r e
+afterPull rows r b (paused left queue) = reporting rows r b left queue (filter (overlaps b) queue)
 
 -- "Others never use up room, wherever they stand in the queue": the pull starts from the live ones
 abbrev pub pulling : ℕ → ℕ → ℕ → Run → Base → Given
-pulling n Q rows r b = afterPull n rows r b (pull ahead (next n) NoRoom (taken b) (live b) Q (r .left) (filter (live b) (r .queue)))
+pulling n Q rows r b = afterPull rows r b (pull ahead (next n) NoRoom (taken b) (live b) Q (r .left) (filter (live b) (r .queue)))
 
 -- an accepted base, where `wrong` is what its heads' loading met
 abbrev pub accept : ℕ → ℕ → ℕ → Run → Base → Option End → Given

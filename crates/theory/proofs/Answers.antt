@@ -3,14 +3,14 @@ use mathlib.Core.Path.{_≡_, refl, sym, ap, _∙_}
 use mathlib.Core.Bool.{Bool, true, false, cond}
 use mathlib.Core.Option.{Option, none, some}
 use mathlib.Core.List.{List, [], _∷_, _++_, map, cons≢nil}
-use Prim.Native.Nat.{ℕ, _≤_}
+use Prim.Native.Nat.{ℕ, _≤_, _<_}
 use native.Mathlib.Omega.{arith}
 use lib.Dec.{ltb, leb}
 use lib.ListN.{length, getD}
-use borrow.Author.Tests.{le-ltb}
-use Rattle.lists.specs.Lists.{filter, head?, All, nil, cons, Sorted}
-use Rattle.lists.proofs.BoolLaws.{clash}
-use Rattle.lists.proofs.ListLaws.{filter-cong, all-of}
+use borrow.Author.Tests.{le-ltb, ltb-true, leb-true}
+use Rattle.lists.specs.Lists.{keep, filter, head?, first, All, nil, cons, Sorted}
+use Rattle.lists.proofs.BoolLaws.{clash, and-also}
+use Rattle.lists.proofs.ListLaws.{filter-cong, all-of, all-right, all-first}
 use Rattle.rules.specs.declared.Base.{Base}
 use Rattle.rules.specs.declared.Refusal.{Refusal}
 use Rattle.rules.specs.declared.Refusal.the-variants.{Beyond, Unlisted, Unordered, Reversed}
@@ -20,18 +20,20 @@ use Rattle.rules.specs.declared.Stage.{Stage}
 use Rattle.rules.specs.declared.Stage.the-variants.{Fresh, After, Over}
 use Rattle.rules.specs.declared.Offer.{Offer}
 use Rattle.rules.specs.declared.Offer.the-variants.{Nothing}
-use Rattle.rules.specs.Rows.{Record, numbered}
+use Rattle.rules.specs.Rows.{Record, numbered, good}
+use Rattle.rules.specs.Merge.{Pick, pick, onto}
 use Rattle.rules.specs.Streams.{else, ahead, next, merged, Head, taking}
 use Rattle.rules.specs.Overlap.{overlaps, taken, live, awaited}
 use Rattle.rules.specs.Pull.{Pull, paused, ends, pull}
 use Rattle.rules.specs.Bases.{notBefore, inOrder, beyond, judge}
-use Rattle.rules.specs.Offer.{placeFor, offer}
+use Rattle.rules.specs.Offer.{target, placeFor, offer}
 use Rattle.rules.specs.Call.{Run, Reply, found, refused, ended, Given, fresh, refuse, end, loading, coming, reporting, afterPull, pulling, accept, judged, byStage, give}
 use Rattle.rules.specs.Job.{Job, lending, onward, replies, answers, mergedOf}
 use Rattle.rules.specs.Promise.{crowd, clear, wall, records, struck, ending, unlessEnded, unlessRefused, said, promised}
 use Rattle.theory.proofs.Mode.{Since, own, due, held}
-use Rattle.theory.proofs.Modes.{Le, Before, before-not, overlap, overlap-laws, due-overlaps, held-crowd, since-next}
-use Rattle.theory.proofs.StreamLaws.{merged-sorted, merged-taking}
+use Rattle.theory.proofs.Modes.{Le, Before, before-not, overlap, overlap-laws, due-overlaps, held-crowd, awaits-beyond, since-next}
+use Rattle.theory.proofs.StreamLaws.{merged-sorted, merged-good, merged-taking}
+use Rattle.theory.proofs.TakingLaws.{all, Next, all-next, all-none}
 use Rattle.theory.proofs.Stride.{Drawn, halted, broke, stride}
 use Rattle.theory.proofs.Turns.{shown, pull-stride}
 use Rattle.theory.proofs.Calls.{Reached, Answered, Call, stops, fresh-reached, call}
@@ -73,6 +75,33 @@ pub offer-same : (l k : List Record) (p : Base) → filter (awaited p) l ≡ fil
 unfolding offer
 offer-same l k p e = rw e
 
+-- nothing behind the first that passes is looked for
+first-passes : {A : Type 0} (p : A → Bool) (q : List A) (t : A) (l : List A) → p t ≡ true → first p (q ++ t ∷ []) ≡ first p (q ++ t ∷ l)
+first-passes p [] t l e = rw e
+first-passes p (x ∷ q) t l e = go (p x) (first-passes p q t l e)
+  where
+    go : (u : Bool) → first p (q ++ t ∷ []) ≡ first p (q ++ t ∷ l) → head? (keep u x (filter p (q ++ t ∷ []))) ≡ head? (keep u x (filter p (q ++ t ∷ l)))
+    go true k = refl
+    go false k = k
+
+-- the least head stands for all that is left: a good record that a base of some length does not take is awaited
+offer-least : (n : ℕ) (b : Base) (left : List (List Record)) (queue : List Record) → All (λ r. taken b r ≡ false) (records (taking n left)) → All (λ r. good n (r .it) ≡ true) (records (taking n left))
+    → offer (coming left queue) b ≡ offer (queue ++ records (taking n left)) b
+unfolding offer taking
+offer-least n b left queue off fine = go (ltb (b .start) (b .stop)) refl
+  where
+    seek : b .start < b .stop → (o : Pick Record) → pick ahead left ≡ o → first (awaited b) (queue ++ onto (λ ts. []) o) ≡ first (awaited b) (queue ++ records (all ahead (next n) left))
+    seek h Pick.none e = rw (all-none ahead (next n) left e)
+    seek h (Pick.one t rest ts) e =
+        let w : all ahead (next n) left ≡ _ = all-next ahead (next n) left e .whole in
+        let waits : awaited b t ≡ true =
+        awaits-beyond b t h (leb-true (t .it .start) (t .it .stop) (and-also (ltb (t .it .chrom .0) n) _ (all-first (rw w at fine)))) (all-first (rw w at off)) in
+        rw w (first-passes (awaited b) queue t _ waits)
+
+    go : (u : Bool) → ltb (b .start) (b .stop) ≡ u → cond u (placeFor b (target (coming left queue) b)) Nothing ≡ cond u (placeFor b (target (queue ++ records (taking n left)) b)) Nothing
+    go false e = refl
+    go true e = ap (placeFor b) (seek (ltb-true (b .start) (b .stop) e) (pick ahead left) refl)
+
 module _ (j : Job) where
   abbrev pub n : ℕ
   n = length (j .lengths)
@@ -102,10 +131,10 @@ module _ (j : Job) where
     unfolding replies said give
     replies-wrong [] = refl
     replies-wrong (b ∷ bs) =
-        rw wrong (go (judge (j .lengths) none b) (replies-wrong bs) (replies-over (j .lengths) (j .room) ss [] e bs))
+        rw wrong (go (judge (j .lengths) none b) (replies-wrong bs) (replies-over (j .lengths) (j .room) (map (λ s. []) ss) [] e bs))
       where
         go : (o : Option Refusal) → replies (j .lengths) (j .room) (fresh (j .streams)) bs ≡ said j [] bs
-            → replies (j .lengths) (j .room) (record { left = ss; queue = []; stage = Over e }) bs ≡ map (λ b. ended e) bs
+            → replies (j .lengths) (j .room) (record { left = map (λ s. []) ss; queue = []; stage = Over e }) bs ≡ map (λ b. ended e) bs
             → onward (judged n (j .room) (j .room) (fresh (j .streams)) b (some e) o) (λ t. replies (j .lengths) (j .room) t bs)
             ≡ unlessRefused o (said j [] bs) (map (λ b. ended e) (b ∷ bs))
         go (some x) k q = rw k
@@ -144,15 +173,17 @@ module _ (j : Job) where
     went : (hs : List Base) (b : Base) (left : List (List Record)) (queue : List Record) → Stands hs left queue → Since overlap hs b → (bs : List Base)
         → ((l : List (List Record)) (q : List Record) → Stands (b ∷ hs) l q → replies (j .lengths) (j .room) (standing (b ∷ hs) l q) bs ≡ said j (b ∷ hs) bs)
         → (p : Pull Record End) → Call overlap NoRoom C (j .room) hs b (shown ahead (next n) NoRoom p)
-        → onward (afterPull n (j .room) (standing hs left queue) b p) (λ t. replies (j .lengths) (j .room) t bs)
+        → onward (afterPull (j .room) (standing hs left queue) b p) (λ t. replies (j .lengths) (j .room) t bs)
         ≡ unlessEnded (ending n (j .room) ss hs b) (b ∷ bs) (found (filter (overlaps b) M) (offer M b) ∷ said j (b ∷ hs) bs)
     unfolding taking
-    went hs b left queue s o bs k (ends e) c = rw (← stops-ending hs b o, c, replies-over (j .lengths) (j .room) left queue e bs)
+    went hs b left queue s o bs k (ends e) c = rw (← stops-ending hs b o, c, replies-over (j .lengths) (j .room) (map (λ s. []) left) [] e bs)
     went hs b left queue s o bs k (paused l q) c =
         let hits : filter (overlaps b) q ≡ filter (overlaps b) M = found-exact b q (c .exact) in
         let few : ltb (j .room) (length (filter (overlaps b) M)) ≡ false =
         le-ltb (j .room) (length (filter (overlaps b) M)) (rw (same, ← due-overlaps (records C) b) (c .few)) in
-        let place : offer (coming n l q) b ≡ offer M b = offer-same (coming n l q) M b (rw same (c .awaits)) in
+        let fine : All (λ r. good n (r .it) ≡ true) (records (taking n l)) = all-right (c .done) (rw (same, c .split) at (merged-good n (j .streams))) in
+        let place : offer (coming l q) b ≡ offer M b =
+        offer-least n b l q (c .undrawn) fine ∙ offer-same (q ++ records (taking n l)) M b (rw same (c .awaits)) in
         let on : Stands (b ∷ hs) l q = record { loads = λ e. absurd (cons≢nil e); chain = more o (s .chain); reached = c .reached } in
         rw (← stops-ending hs b o, c .unstopped, hits, few, place, k l q on)
 

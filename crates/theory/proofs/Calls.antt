@@ -9,8 +9,8 @@ use lib.Dec.{ltb}
 use lib.ListN.{length}
 use borrow.Author.Tests.{lt-ltb, le-ltb}
 use Rattle.lists.specs.Lists.{filter, All, nil, cons, Sorted}
-use Rattle.lists.proofs.BoolLaws.{and-more}
-use Rattle.lists.proofs.ListLaws.{filter-append, filter-all, filter-cong, filter-ahead, length-mono, all-of, all-map, sorted-left, sorted-right, map-append}
+use Rattle.lists.proofs.BoolLaws.{and-more, or-left}
+use Rattle.lists.proofs.ListLaws.{filter-append, filter-all, filter-cong, filter-ahead, length-mono, all-of, all-map, all-append, sorted-left, sorted-right, map-append}
 use Rattle.rules.specs.Streams.{Head}
 use Rattle.rules.specs.Promise.{clear, wall, records, struck}
 use Rattle.theory.proofs.Mode.{Mode, Laws, State, Since, walk, step, own, took, due, held, Swept, Good, Tells}
@@ -43,6 +43,9 @@ module _ {R B E : Type 0} (m : Mode R B) (full : E) (C : List (Head R E)) (Q : �
     pub exact : filter (own m b) queue ≡ due m whole b
     pub few : length (due m whole b) ≤ Q
     pub awaits : filter (m .wait b) (queue ++ records left) ≡ filter (m .wait b) whole
+    pub undrawn : All (λ r. m .take b r ≡ false) (records left)
+    pub done : List R
+    pub split : whole ≡ done ++ records left
     pub reached : Reached (b ∷ hs) left queue
 
   -- what a base comes to, by the accepted bases ahead of it
@@ -87,16 +90,19 @@ module _ {R B E : Type 0} (m : Mode R B) (laws : Laws m) (full : E) (C : List (H
   due-free : (b : B) → struck (m .take b) W ≡ none → due m M b ≡ due m F b
   due-free b e = ap (λ (l : List R). due m l b) parts ∙ filter-ahead (m .take b) (m .live b) F (records W) (undrawn b e)
 
+  -- what was drawn, and what is left
+  cut : (hs : List B) (s : State R) (w : Swept m F Q hs s) → M ≡ w .done ++ (s .left ++ records W)
+  cut hs s w = parts ∙ ap (λ (l : List R). l ++ records W) (w .split) ∙ append-assoc (w .done) (s .left) (records W)
+
   -- all that waits for b is queued or left: what was drawn waits exactly if it is live
   awaits-same : (hs : List B) (b : B) (s : State R) → Since m hs b → Good m F Q hs b s → filter (m .wait b) (s .queue ++ (s .left ++ records W)) ≡ filter (m .wait b) M
   awaits-same hs b s o g =
       let w : Swept m F Q (b ∷ hs) s = g .swept in
       let order : Since m (b ∷ hs) b = cons (laws .same b) o in
-      let cut : M ≡ w .done ++ (s .left ++ records W) = parts ∙ ap (λ (l : List R). l ++ records W) (w .split) ∙ append-assoc (w .done) (s .left) (records W) in
       let drawn : filter (m .wait b) (w .done) ≡ filter (m .live b) (w .done) = filter-cong {q = m .live b} (all-map (λ r e. took-wait m laws r order e) (w .drawn)) in
       let queued : filter (m .live b) (w .done) ≡ s .queue = sym (w .kept b order) ∙ filter-all (g .lively) in
       let waiting : filter (m .wait b) (s .queue) ≡ s .queue = filter-all (all-map (λ r e. laws .waits b b r (laws .same b) e) (g .lively)) in
-      rw (cut, filter-append (m .wait b) (s .queue) (s .left ++ records W), filter-append (m .wait b) (w .done) (s .left ++ records W), waiting, drawn, queued)
+      rw (cut (b ∷ hs) s w, filter-append (m .wait b) (s .queue) (s .left ++ records W), filter-append (m .wait b) (w .done) (s .left ++ records W), waiting, drawn, queued)
 
   due-held : (hs : List B) (b : B) → length (due m F b) ≤ length (held m F hs b)
   due-held hs b = length-mono (all-of (λ r. and-more (m .take b r) (took m hs r) (m .live b r)) F)
@@ -114,6 +120,9 @@ module _ {R B E : Type 0} (m : Mode R B) (laws : Laws m) (full : E) (C : List (H
         exact = t .exact ∙ sym (due-free b e);
         few = rw (due-free b e) (omega (arith, due-held hs b, t .fits));
         awaits = rw (records-behind (s .left)) (awaits-same hs b s o t);
+        undrawn = rw (records-behind (s .left)) (all-append (all-map (λ r f. or-left (m .take b r) (took m hs r) f) (t .swept .ahead)) (undrawn b e));
+        done = t .swept .done;
+        split = rw (records-behind (s .left)) (cut (b ∷ hs) s (t .swept));
         reached = record { inner = s; same = refl; swept = t .swept };
       }
       go (some y) e = rw roomy e
