@@ -1,0 +1,3 @@
+-- What the offer's definition comes to.
+pub mod OfferLaws
+pub mod PlaceLaws

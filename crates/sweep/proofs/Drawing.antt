@@ -1,0 +1,197 @@
+-- The loop of a pull: what is left and what waits give the same pull as at its start, and each way out settles the call.
+use mathlib.Core.Path.{_≡_, refl, sym, ap, _∙_}
+use mathlib.Core.Bool.{Bool, true, false, cond}
+use mathlib.Core.List.{List, [], _∷_, _++_, append-nil}
+use Prim.Native.Nat.{ℕ, zero, suc, _≤_, _<_}
+use native.Mathlib.Omega.{arith}
+use lib.Dec.{leb, ltb}
+use lib.ListN.{length}
+use borrow.Author.Tests.{le-leb, lt-leb, le-ltb}
+use Rattle.lists.specs.Lists.{total, filter, keep, head?, All, nil, cons}
+use Rattle.lists.proofs.ListLaws.{all-append, length-filter}
+use Rattle.rules.specs.declared.Base.{Base}
+use Rattle.rules.specs.declared.Chrom.{Chrom}
+use Rattle.rules.specs.declared.End.{End}
+use Rattle.rules.specs.declared.End.the-variants.{NoRoom}
+use Rattle.rules.specs.declared.Stage.the-variants.{After}
+use Rattle.rules.specs.declared.Answer.the-variants as answer
+use Rattle.rules.specs.Rows.{Record}
+use Rattle.rules.specs.Merge.{pick}
+use Rattle.rules.specs.Streams.{ahead, next}
+use Rattle.rules.specs.Overlap.{taken, live, overlaps}
+use Rattle.rules.specs.Pull.{Pull, paused, ends, pull}
+use Rattle.rules.specs.Offer.{offer}
+use Rattle.rules.specs.Call.{Reply, found, refused, ended, coming, afterPull, end}
+use Rattle.rules.specs.Call as rules
+use Rattle.heads.specs.declared.Heads.{Heads}
+use Rattle.heads.specs.declared.Best.{Best}
+use Rattle.heads.specs.declared.Taken.{Taken}
+use Rattle.heads.specs.declared.Next.{Next}
+use Rattle.heads.specs.declared.Move.{Move}
+use Rattle.heads.specs.declared.Move.the-variants as move
+use Rattle.heads.specs.View.{Cols, restsOf}
+use Rattle.heads.specs.Least.{bestOf}
+use Rattle.heads.specs.Move.{moved, endsAt, goesAt, takenRecord, Shaped}
+use Rattle.heads.proofs.RestLaws.{onMove, queued, pull-move}
+use Rattle.heads.proofs.TurnLaws.{Turning, Takes, turn-here, ends-takes, goes-takes, stays-best, least-below}
+use Rattle.queue.specs.declared.Ring.{Ring}
+use Rattle.queue.specs.Ring.{Cells, Fair, recordOf, waiting}
+use Rattle.queue.specs.Deeds.{Scannable, frontOf}
+use Rattle.queue.proofs.Waiting.{length-waiting}
+use Rattle.offers.specs.Offers.{offerBy}
+use Rattle.offers.proofs.OfferLaws.{offer-by}
+use Rattle.sweep.specs.declared.Run.{Run}
+use Rattle.sweep.specs.declared.Given.{Given}
+use Rattle.sweep.specs.View.{headsOf, runWith, runOf, overOf}
+use Rattle.sweep.specs.Settle.{turnOf, afterTurns, drawnTo, runBy, Kept, Lent, lent, Settles, pullOf, Drawable, slotOf, KeptAs, FullAs, ReportsAs, DrawsAs}
+use Rattle.sweep.proofs.ViewLaws.{over-view}
+
+-- ---- the heads
+
+-- where no head is to be taken the heads stay
+turns-stay : (s : Cols) (n : ℕ) (b : Base) (k : ℕ) (h : Heads) (x : Best) → turnOf s n b h ≡ move.Stay x → afterTurns s n b k h ≡ h
+unfolding afterTurns
+turns-stay s n b zero h x e = refl
+turns-stay s n b (suc k) h x e = ap (λ (m : Move). afterTurns s n b k (moved h m)) e ∙ turns-stay s n b k h x e
+
+-- a turn that leaves one row less is one of the turns
+turns-next : (s : Cols) (n : ℕ) (b : Base) (h g : Heads) → moved h (turnOf s n b h) ≡ g → total (restsOf s h) ≡ suc (total (restsOf s g)) → drawnTo s n b h ≡ drawnTo s n b g
+unfolding afterTurns
+turns-next s n b h g e f = ap (λ (k : ℕ). afterTurns s n b k h) f ∙ ap (afterTurns s n b (total (restsOf s g))) e
+
+-- ---- the queue
+
+kept-trans : {a c d : Cells} → Kept a c → Kept c d → Kept a d
+kept-trans h k = record { stream = k .stream ∙ h .stream; row = k .row ∙ h .row; start = k .start ∙ h .start; stop = k .stop ∙ h .stop }
+
+fair-kept : {q w : Ring} {c d : Cells} → Fair q c → Fair w d → w .room ≡ q .room → Kept c d
+fair-kept f g e = record { stream = g .streams ∙ e ∙ sym (f .streams); row = g .rows ∙ e ∙ sym (f .rows); start = g .starts ∙ e ∙ sym (f .starts); stop = g .stops ∙ e ∙ sym (f .stops) }
+
+-- ---- the loop
+
+-- r, q and l: the run, the ring and what was lent at the start
+module _ (s : Cols) (r : Run) (b : Base) (q : Ring) (l : Lent) where
+  -- the pull from what is left and what waits
+  abbrev from : Heads → List Record → Pull Record End
+  from h queue = pull ahead (next (r .chroms)) NoRoom (taken b) (live b) (q .room) (restsOf s h) queue
+
+  -- u, w and c: the run, the ring and the queue's memory at a turn
+  pub record Drawing (u : Run) (w : Ring) (c : Cells) : Type 0 where
+    pub turning : Turning s (headsOf u)
+    pub same : u ≡ runWith r (headsOf u) (r .ring) (r .stage)
+    pub ranged : (u .from ≡ r .from) × (u .to ≡ r .to) × (u .streams ≡ r .streams)
+    pub fair : Fair w c
+    pub chrom : w .chrom ≡ b .chrom
+    pub cleared : All (λ a. live b a ≡ true) (waiting w c)
+    pub room : w .room ≡ q .room
+    pub kept : Kept (l .cells) c
+    pub pulls : from (headsOf u) (waiting w c) ≡ from (headsOf r) (waiting q (l .cells))
+    pub draws : drawnTo s (r .chroms) b (headsOf u) ≡ drawnTo s (r .chroms) b (headsOf r)
+
+  pub starts : Drawable s r b q l → Shaped (headsOf r) → Drawing r q (l .cells)
+  starts d z = record {
+    turning = record { placed = d .placed; shaped = z };
+    same = refl;
+    ranged = (refl, refl, refl);
+    fair = d .fair;
+    chrom = d .chrom;
+    cleared = d .cleared;
+    room = refl;
+    kept = record { stream = refl; row = refl; start = refl; stop = refl };
+    pulls = refl;
+    draws = refl;
+  }
+
+  module _ (u : Run) (w : Ring) (c : Cells) (d : Drawing u w c) where
+    abbrev pub here : Move
+    here = turn-here s (headsOf u) (d .turning) (r .chroms) b
+
+    -- a turn of the pull
+    pub on-move : (m : Move) → m ≡ here → from (headsOf u) (waiting w c) ≡ onMove s (headsOf u) (r .chroms) b NoRoom (q .room) (waiting w c) m
+    on-move m e = pull-move s (headsOf u) (d .turning .shaped) (d .turning .placed .few) (r .chroms) b NoRoom (q .room) (waiting w c) ∙ ap (onMove s (headsOf u) (r .chroms) b NoRoom (q .room) (waiting w c)) (sym e)
+
+    -- what waits after a head was taken
+    more-kept : (t : Taken) (w′ : Ring) (c′ : Cells) → KeptAs w c t w′ c′ → waiting w′ c′ ≡ waiting w c ++ keep (t .live) (takenRecord b t) []
+    more-kept t w′ c′ k = k .more ∙ ap (λ (x : Chrom). waiting w c ++ keep (t .live) (recordOf x (slotOf t)) []) (d .chrom)
+
+    -- the pull goes on from it
+    queued-kept : (t : Taken) (w′ : Ring) (c′ : Cells) → KeptAs w c t w′ c′ → (ss : List (List Record))
+        → queued (r .chroms) b NoRoom (q .room) (waiting w c) t ss ≡ pull ahead (next (r .chroms)) NoRoom (taken b) (live b) (q .room) ss (waiting w′ c′)
+    queued-kept t w′ c′ k ss = rw (more-kept t w′ c′ k) (go (t .live) refl)
+      where
+        go : (v : Bool) → t .live ≡ v
+            → cond v (cond (leb (q .room) (length (waiting w c))) (ends NoRoom) (pull ahead (next (r .chroms)) NoRoom (taken b) (live b) (q .room) ss (waiting w c ++ takenRecord b t ∷ []))) (pull ahead (next (r .chroms)) NoRoom (taken b) (live b) (q .room) ss (waiting w c))
+            ≡ pull ahead (next (r .chroms)) NoRoom (taken b) (live b) (q .room) ss (waiting w c ++ keep v (takenRecord b t) [])
+        go true e = rw (lt-leb (q .room) (length (waiting w c)) (omega (arith, k .fewer e, d .room)))
+        go false e = rw (append-nil (waiting w c))
+
+    pub queued-full : (t : Taken) (c′ : Cells) → FullAs w c t c′ → (ss : List (List Record)) → queued (r .chroms) b NoRoom (q .room) (waiting w c) t ss ≡ ends NoRoom
+    queued-full t c′ k ss = rw (k .lives, le-leb (q .room) (length (waiting w c)) (omega (arith, k .full, d .room)))
+
+    still-live : (t : Taken) (w′ : Ring) (c′ : Cells) → KeptAs w c t w′ c′ → (t .live ≡ true → live b (takenRecord b t) ≡ true) → All (λ a. live b a ≡ true) (waiting w′ c′)
+    still-live t w′ c′ k lively = rw (more-kept t w′ c′ k) (all-append (d .cleared) (go (t .live) lively))
+      where
+        go : (v : Bool) → (v ≡ true → live b (takenRecord b t) ≡ true) → All (λ a. live b a ≡ true) (keep v (takenRecord b t) [])
+        go true f = cons (f refl) nil
+        go false f = nil
+
+    -- a head was taken: g are the heads after it
+    pub steps : (m : Move) → m ≡ here → (t : Taken) (u′ : Run) (g : Heads) → Takes s b (headsOf u) t g → moved (headsOf u) m ≡ g
+        → onMove s (headsOf u) (r .chroms) b NoRoom (q .room) (waiting w c) m ≡ queued (r .chroms) b NoRoom (q .room) (waiting w c) t (restsOf s g)
+        → u′ ≡ runWith u g (u .ring) (u .stage) → (g .from ≡ u .from) × (g .to ≡ u .to) × (g .streams ≡ u .streams)
+        → (w′ : Ring) (c′ : Cells) → KeptAs w c t w′ c′ → Drawing u′ w′ c′
+    steps m e t u′ g k to-g on is ranges w′ c′ p = rw is (record {
+      turning = k .turning;
+      same = rw (d .same);
+      ranged = (ranges .0 ∙ d .ranged .0, ranges .1 ∙ d .ranged .1, ranges .2 ∙ d .ranged .2);
+      fair = p .fair;
+      chrom = p .chrom ∙ d .chrom;
+      cleared = still-live t w′ c′ p (k .lively);
+      room = p .room ∙ d .room;
+      kept = kept-trans (d .kept) (fair-kept (d .fair) (p .fair) (p .room));
+      pulls = sym (queued-kept t w′ c′ p (restsOf s g)) ∙ sym on ∙ sym (on-move m e) ∙ d .pulls;
+      draws = sym (turns-next s (r .chroms) b (headsOf u) g (ap (moved (headsOf u)) (sym e) ∙ to-g) (k .less)) ∙ d .draws;
+    })
+
+    -- ---- the ways out
+
+    -- the run ends by e
+    pub ends-so : (e : End) (c′ : Cells) (ss : List ℕ) (rs : List ℕ) → Kept (l .cells) c′ → from (headsOf r) (waiting q (l .cells)) ≡ ends e
+        → (g : Given) → g ≡ record { run = overOf u e; answer = answer.Ended e } → ss ≡ l .streams → rs ≡ l .rows → DrawsAs s r b q l g (lent c′ ss rs)
+    ends-so e c′ ss rs k is g gs sss rss = rw (is, gs, sss, rss) (record {
+      answer = refl;
+      run = ap (runOf s c′) over-same ∙ over-view s (l .cells) c′ r e (omega (arith, d .turning .placed .few, d .ranged .2));
+      exact = over-same;
+      room = ap (λ (x : Run). x .ring .room) over-same;
+      kept = k;
+      streams = refl;
+      rows = refl;
+    })
+      where
+        over-same : overOf u e ≡ overOf r e
+        over-same = rw (d .same, d .ranged .0, d .ranged .1, d .ranged .2)
+
+    -- no head is to be taken: the base is answered
+    pub stays-so : Drawable s r b q l → (m : Move) → m ≡ here → (x : Best) → m ≡ move.Stay x → (g : Given) (ss rs : List ℕ) → ReportsAs u w c x b (l .streams) (l .rows) g ss rs → DrawsAs s r b q l g (lent c ss rs)
+    stays-so z m e x i g ss rs k = rw is-paused (rw few (record {
+      answer = k .answer ∙ rw place;
+      run = ap (runOf s c) (k .run);
+      exact = k .run ∙ rw (d .same) (ap (λ (h : Heads). runWith r h w (After b)) (sym last-heads)) ∙ ap (λ (y : Run). runWith r (drawnTo s (r .chroms) b (headsOf r)) (y .ring) (After b)) (sym (k .run));
+      room = ap (λ (y : Run). y .ring .room) (k .run) ∙ d .room ∙ z .room;
+      kept = d .kept;
+      streams = k .streams;
+      rows = k .rows;
+    }))
+      where
+        is-paused : from (headsOf r) (waiting q (l .cells)) ≡ paused (restsOf s (headsOf u)) (waiting w c)
+        is-paused = sym (d .pulls) ∙ on-move m e ∙ ap (onMove s (headsOf u) (r .chroms) b NoRoom (q .room) (waiting w c)) i
+
+        few : ltb (length (l .rows)) (length (filter (overlaps b) (waiting w c))) ≡ false
+        few = le-ltb (length (l .rows)) (length (filter (overlaps b) (waiting w c))) (omega (arith, length-filter (overlaps b) (waiting w c), length-waiting w c, d .fair .sound .fits, d .room, z .rows))
+
+        place : offerBy b (frontOf (head? (waiting w c))) x ≡ offer (coming (restsOf s (headsOf u)) (waiting w c)) b
+        place = ap (offerBy b (frontOf (head? (waiting w c)))) (stays-best s (headsOf u) (d .turning) (r .chroms) b m e x i)
+            ∙ offer-by b (restsOf s (headsOf u)) (least-below s (headsOf u) (d .turning) (r .chroms) b) (waiting w c) (d .cleared)
+
+        last-heads : drawnTo s (r .chroms) b (headsOf r) ≡ headsOf u
+        last-heads = sym (d .draws) ∙ turns-stay s (r .chroms) b (total (restsOf s (headsOf u))) (headsOf u) x (sym e ∙ i)

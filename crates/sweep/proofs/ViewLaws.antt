@@ -1,0 +1,53 @@
+-- What an ended run stands for.
+use mathlib.Core.Path.{_≡_, refl, sym, ap, _∙_}
+use mathlib.Core.Bool.{Bool, true, false}
+use mathlib.Core.List.{List, [], _∷_, map}
+use Prim.Native.Nat.{ℕ, zero, suc, _+_, _<_, _≤_}
+use native.Mathlib.Omega.{arith}
+use lib.ListN.{getD}
+use Rattle.lists.specs.Build.{build}
+use Rattle.lists.proofs.BuildLaws.{build-same}
+use Rattle.rules.specs.declared.End.{End}
+use Rattle.rules.specs.declared.Stage.{Stage}
+use Rattle.rules.specs.declared.Stage.the-variants.{Fresh, After, Over}
+use Rattle.rules.specs.Rows.{Record}
+use Rattle.rules.specs.Call.{over}
+use Rattle.rules.specs.Call as rules
+use Rattle.heads.specs.declared.Heads.{Heads}
+use Rattle.heads.specs.View.{Cols, behindAt, restAt, restsOf, freshOf, unlessEnded}
+use Rattle.queue.specs.Ring.{Cells, waiting}
+use Rattle.queue.proofs.Calls.{fresh-none}
+use Rattle.sweep.specs.declared.Run.{Run}
+use Rattle.sweep.specs.View.{headsOf, leftBy, runOf, eight, overOf}
+
+-- eight times the same
+eight-at : {A : Type 0} (x d : A) (k : ℕ) → k < 8 → getD (eight x) k d ≡ x
+eight-at x d zero h = refl
+eight-at x d (suc zero) h = refl
+eight-at x d (suc (suc zero)) h = refl
+eight-at x d (suc (suc (suc zero))) h = refl
+eight-at x d (suc (suc (suc (suc zero)))) h = refl
+eight-at x d (suc (suc (suc (suc (suc zero))))) h = refl
+eight-at x d (suc (suc (suc (suc (suc (suc zero)))))) h = refl
+eight-at x d (suc (suc (suc (suc (suc (suc (suc zero))))))) h = refl
+eight-at x d (suc (suc (suc (suc (suc (suc (suc (suc k)))))))) h = absurd (omega arith)
+
+-- nothing of each
+map-build : {A : Type 0} (f : ℕ → List A) (k i : ℕ) → map {B = List A} (λ s. []) (build f k i) ≡ build (λ j. []) k i
+unfolding build
+map-build f zero i = refl
+map-build f (suc k) i = rw (map-build f k (suc i))
+
+left-none : (t : Stage) (s : Cols) (h : Heads) → map {B = List Record} (λ l. []) (leftBy t s h) ≡ build (λ j. []) (h .streams) 0
+unfolding restsOf freshOf
+left-none Fresh s h = map-build (behindAt s h) (h .streams) 0
+left-none (After p) s h = map-build (restAt s h) (h .streams) 0
+left-none (Over e) s h = map-build (restAt s h) (h .streams) 0
+
+-- of an ended run nothing is left
+pub over-view : (s : Cols) (c c′ : Cells) (r : Run) (e : End) → r .streams ≤ 8 → runOf s c′ (overOf r e) ≡ over (runOf s c r) e
+unfolding restsOf
+over-view s c c′ r e few =
+    let left : restsOf s (headsOf (overOf r e)) ≡ map {B = List Record} (λ l. []) (leftBy (r .stage) s (headsOf r)) =
+    build-same (λ j. []) (restAt s (headsOf (overOf r e))) (r .streams) 0 (λ j a b. rw (eight-at true false j (omega arith))) ∙ sym (left-none (r .stage) s (headsOf r)) in
+    rw (left, fresh-none (r .ring .room) (r .ring .chrom) c′)

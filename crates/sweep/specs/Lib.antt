@@ -1,0 +1,3 @@
+-- What a run stands for, and what a call says.
+pub mod View
+pub mod Settle
