@@ -7,6 +7,7 @@ use Prim.Native.Nat.{ℕ, _+_, _≤_, _<_}
 use lib.ListN.{length, getD, set}
 use Rattle.rules.specs.declared.Base.{Base}
 use Rattle.rules.specs.declared.End.{End}
+use Rattle.rules.specs.declared.Row.{Row}
 use Rattle.rules.specs.declared.Stream.{Stream}
 use Rattle.rules.specs.Rows.{Record}
 use Rattle.rules.specs.Merge.{Pick, none, one}
@@ -27,9 +28,12 @@ use Rattle.heads.specs.Least.{noBest, headOf}
 abbrev pub bestRecord : Best → Record
 bestRecord h = recordIn (h .stream) (h .chrom) (h .start) (h .stop) (h .row)
 
--- a row that was read, as a record of stream k
+-- a row that was read, and as a record of stream k
+abbrev pub nextRow : Next → Row
+nextRow x = record { chrom = x .chrom; start = x .start; stop = x .stop }
+
 abbrev pub nextRecord : Stream → Next → Record
-nextRecord k x = recordIn k (x .chrom) (x .start) (x .stop) (x .row)
+nextRecord k x = record { stream = k; row = x .row; it = nextRow x }
 
 -- what is wrong with a row, as the code answers it
 abbrev pub checkOf : Option End → Check

@@ -5,7 +5,7 @@ ghost use mathlib.Core.List.{List, [], _∷_};
 ghost use Prim.Native.Nat.{ℕ, _+_, _-_, _<_, _≤_};
 ghost use lib.ListN.{length, getD};
 ghost use mathlib.Core.Option.{none, some};
-ghost use Rattle.rules.specs.Rows.{fault};
+ghost use Rattle.rules.specs.Rows.{good, follows, fault};
 ghost use Rattle.rules.specs.Overlap.{taken, live};
 ghost use Rattle.rules.specs.Streams.{ahead};
 ghost use Rattle.rules.specs.Merge.{pick};
@@ -13,7 +13,7 @@ ghost use Rattle.lists.specs.Build.{build};
 ghost use Rattle.heads.specs.View.{cols, rowAt, foursOf, leftAt};
 ghost use Rattle.heads.specs.Least.{headOf, sooner, bestAt, betterOf, leastIn};
 ghost use Rattle.heads.specs.Load.{opensAt, loadOne, wrongFirst, unlessWrongIn, LoadsAs};
-ghost use Rattle.heads.specs.Move.{endsAt, bestRecord, nextRecord, checkOf, takes, moveOf, behindBy, PlacedIn, Placed, nextOf};
+ghost use Rattle.heads.specs.Move.{endsAt, bestRecord, nextRow, nextRecord, checkOf, takes, moveOf, behindBy, PlacedIn, Placed, nextOf};
 ghost use Rattle.lists.specs.Lists.{Says};
 use rules::Base;
 use rules::Chrom;
@@ -222,31 +222,40 @@ pub fn is_live(b: Base, h: Best) -> bool
     false
 }
 
-// 7 and 8, with stream and row.
-fn faulty(k: Stream, row: u64) -> Check
-    ensures { λ r. ⌜ r ≡ Check.Wrong (End.Faulty k row) ⌝ }
+// Whether a row's chromosome is one of n, and its start no later than its stop; else 7.
+fn is_good(n: u64, x: Next) -> bool
+    ensures { λ r. ⌜ r ≡ good n (nextRow x) ⌝ }
 {
-    Check::Wrong(End::Faulty(k, row))
+    let c = x.chrom;
+    if n <= c.0 {
+        return false;
+    }
+    x.start <= x.stop
 }
 
-fn unsorted(k: Stream, row: u64) -> Check
-    ensures { λ r. ⌜ r ≡ Check.Wrong (End.Unsorted k row) ⌝ }
+// Whether a row is in order behind a head, by chromosome and start; else 8.
+fn is_ordered(h: Best, x: Next) -> bool
+    ensures { λ r. ⌜ r ≡ follows (bestRecord h .it) (nextRow x) ⌝ }
 {
-    Check::Wrong(End::Unsorted(k, row))
+    let c = h.chrom;
+    let d = x.chrom;
+    if c.0 < d.0 {
+        return true;
+    }
+    if d.0 < c.0 {
+        return false;
+    }
+    h.start <= x.start
 }
 
 // What is wrong with the first row of stream k, of n chromosomes: 7.
 fn check_first(n: u64, k: Stream, x: Next) -> Check
     ensures { λ r. ⌜ r ≡ checkOf (fault n none (nextRecord k x)) ⌝ }
 {
-    let c = x.chrom;
-    if n <= c.0 {
-        return faulty(k, x.row);
+    if is_good(n, x) {
+        return Check::Fine;
     }
-    if x.stop < x.start {
-        return faulty(k, x.row);
-    }
-    Check::Fine
+    Check::Wrong(End::Faulty(k, x.row))
 }
 
 // What is wrong with the row behind a head: 7, then 8.
@@ -254,24 +263,15 @@ fn check_behind(n: u64, h: Best, x: Next) -> Check
     ensures { λ r. ⌜ r ≡ checkOf (fault n (some (bestRecord h .it)) (nextRecord (h .stream) x)) ⌝ }
 {
     let k = h.stream;
-    let c = h.chrom;
-    let d = x.chrom;
-    let first = check_first(n, k, x);
-    match first {
-        Check::Wrong(e) => Check::Wrong(e),
-        Check::Fine => {
-            if c.0 < d.0 {
-                return Check::Fine;
-            }
-            if d.0 < c.0 {
-                return unsorted(k, x.row);
-            }
-            if x.start < h.start {
-                return unsorted(k, x.row);
-            }
-            Check::Fine
-        }
+    let good = is_good(n, x);
+    let ordered = is_ordered(h, x);
+    if !good {
+        return Check::Wrong(End::Faulty(k, x.row));
     }
+    if !ordered {
+        return Check::Wrong(End::Unsorted(k, x.row));
+    }
+    Check::Fine
 }
 
 // The row at a place of the columns, in a stream whose rows begin at `first`.
