@@ -41,7 +41,7 @@ From i (one y rest ts) = (i ≤ y .stream .0) × (y .stream .0 < 8)
 
 -- one stream's head against what is picked of the later ones
 best-better : (i n : ℕ) (l : List ℕ) (dead : Bool) (xs : List Record) (ss : List (List Record)) (o : Pick Record) → i < n → From (suc i) o
-    → bestOf (better ahead (unlessEnded dead (recordFrom i l ∷ xs)) ss o) ≡ betterOf i n l dead (bestOf o)
+    → bestOf (better ahead (unlessEnded dead (recordFrom i l ∷ xs)) ss o) ≡ betterOf (record { 0 = i }) n l dead (bestOf o)
 unfolding betterOf
 best-better i n l true xs ss none h f = rw (lt-leb n i h)
 best-better i n l true xs ss (one y rest ts) h f = rw (lt-leb n i h)
@@ -49,7 +49,7 @@ best-better i n l false xs ss none h f = rw (lt-leb n i h)
 best-better i n l false xs ss (one y rest ts) h f =
     rw (lt-leb n i h, ne-eqb (y .stream .0) 8 (λ e. omega (arith, f .1, e)), ahead-sooner (recordFrom i l) y l (omega (arith, f .0)) refl) (go (sooner (headOf y) l))
   where
-    go : (t : Bool) → bestOf (cond (not t) (one (recordFrom i l) xs (xs ∷ ss)) (one y rest ((recordFrom i l ∷ xs) ∷ ts))) ≡ cond t (headOf y) (bestAt i l)
+    go : (t : Bool) → bestOf (cond (not t) (one (recordFrom i l) xs (xs ∷ ss)) (one y rest ((recordFrom i l ∷ xs) ∷ ts))) ≡ cond t (headOf y) (bestAt (record { 0 = i }) l)
     go true = refl
     go false = refl
 

@@ -35,9 +35,9 @@ module _ (s : Cols) (n : ℕ) (h : Heads) (k : ℕ) where
   begun-ends e = rw (le-leb (getD (h .to) k 0) (getD (h .next) k 0) e)
 
   -- a row: `w` is what was found wrong with it
-  module _ (e : getD (h .next) k 0 < getD (h .to) k 0) (x : Next) (w : Check) (is : x ≡ firstOf s h k) (found : w ≡ checkOf (fault n none (nextRecord k x))) where
+  module _ (e : getD (h .next) k 0 < getD (h .to) k 0) (x : Next) (w : Check) (is : x ≡ firstOf s h k) (found : w ≡ checkOf (fault n none (nextRecord (record { 0 = k }) x))) where
     seen : w ≡ checkOf (fault n none (rowAt s (getD (h .from) k 0) k (getD (h .next) k 0)))
-    seen = found ∙ ap (λ (y : Next). checkOf (fault n none (nextRecord k y))) is
+    seen = found ∙ ap (λ (y : Next). checkOf (fault n none (nextRecord (record { 0 = k }) y))) is
 
     pub begun-wrong : (y : End) → w ≡ the-check.Wrong y → record { heads = h; wrong = the-check.Wrong y } ≡ begun
     begun-wrong y q = rw (lt-leb (getD (h .to) k 0) (getD (h .next) k 0) e, check-wrong (fault n none (rowAt s (getD (h .from) k 0) k (getD (h .next) k 0))) y (sym seen ∙ q))

@@ -36,8 +36,8 @@ module _ (q : List (List ℕ)) (ended : List Bool) (behind : ℕ → List Record
   -- the head h is chosen: it and the rows behind it are what is left of its stream
   pub record Chosen (h : Best) : Type 0 where
     pub others : List (List Record)
-    pub is : pick ahead ss ≡ one (bestRecord h) (behind (h .at)) others
-    pub inside : h .at < n
+    pub is : pick ahead ss ≡ one (bestRecord h) (behind (h .stream .0)) others
+    pub inside : h .stream .0 < n
 
   rest-is : (k : ℕ) (dead : Bool) (l : List ℕ) (xs : List Record) {y : Record} {rest : List Record} → unlessEnded dead (recordFrom k l ∷ xs) ≡ y ∷ rest → rest ≡ xs
   rest-is k true l xs e = let z : _≡_ {A = ℕ} 0 1 = cc in absurd (omega arith)
@@ -71,16 +71,16 @@ module _ (q : List (List ℕ)) (ended : List Bool) (behind : ℕ → List Record
         fewer = w .fewer;
       }
 
-  pub chosen : (h : Best) → h ≡ leastIn q ended n → (h .at ≡ 8 → ⊥) → Chosen h
+  pub chosen : (h : Best) → h ≡ leastIn q ended n → (h .stream .0 ≡ 8 → ⊥) → Chosen h
   chosen h e f = go (pick ahead ss) refl
     where
       go : (o : Pick Record) → pick ahead ss ≡ o → Chosen h
-      go none z = absurd (f (ap (λ (b : Best). b .at) (e ∙ least-pick q ended behind n few ∙ ap bestOf z)))
+      go none z = absurd (f (ap (λ (b : Best). b .stream .0) (e ∙ least-pick q ended behind n few ∙ ap bestOf z)))
       go (one a rest ts) z =
           let is : h ≡ headOf a = e ∙ least-pick q ended behind n few ∙ ap bestOf z in
           let w : Standing a rest ts = standing a rest ts z in
           let same : bestRecord h ≡ a = ap bestRecord is in
-          let place : h .at ≡ a .stream .0 = ap (λ (b : Best). b .at) is in
+          let place : h .stream .0 ≡ a .stream .0 = ap (λ (b : Best). b .stream .0) is in
           record {
             others = ts;
             is = z ∙ ap (λ (r : Record). one r rest ts) (sym same) ∙ ap (λ (l : List Record). one (bestRecord h) l ts) (w .after ∙ ap behind (sym place));
@@ -88,23 +88,23 @@ module _ (q : List (List ℕ)) (ended : List Bool) (behind : ℕ → List Record
           }
 
   -- no head stays; nor is a head taken that is not to be
-  pub stays-none : (N : ℕ) (b : Base) (nexts : List ℕ) (h : Best) → h ≡ leastIn q ended n → h .at ≡ 8 → moveOf N b nexts (pick ahead ss) ≡ move.Stay
+  pub stays-none : (N : ℕ) (b : Base) (nexts : List ℕ) (h : Best) → h ≡ leastIn q ended n → h .stream .0 ≡ 8 → moveOf N b nexts (pick ahead ss) ≡ move.Stay h
   unfolding moveOf
   stays-none N b nexts h e f = go (pick ahead ss) refl
     where
-      go : (o : Pick Record) → pick ahead ss ≡ o → moveOf N b nexts o ≡ move.Stay
-      go none z = refl
+      go : (o : Pick Record) → pick ahead ss ≡ o → moveOf N b nexts o ≡ move.Stay h
+      go none z = ap move.Stay (sym (e ∙ least-pick q ended behind n few ∙ ap bestOf z))
       go (one a rest ts) z =
           let is : h ≡ headOf a = e ∙ least-pick q ended behind n few ∙ ap bestOf z in
-          absurd (omega (arith, ap (λ (b : Best). b .at) is, standing a rest ts z .place))
+          absurd (omega (arith, ap (λ (b : Best). b .stream .0) is, standing a rest ts z .place))
 
   module _ (N : ℕ) (b : Base) (nexts : List ℕ) (h : Best) (c : Chosen h) where
-    pub stays-untaken : taken b (bestRecord h) ≡ false → moveOf N b nexts (pick ahead ss) ≡ move.Stay
+    pub stays-untaken : taken b (bestRecord h) ≡ false → moveOf N b nexts (pick ahead ss) ≡ move.Stay h
     unfolding moveOf
     stays-untaken e = rw (c .is, e)
 
     pub takes-chosen : taken b (bestRecord h) ≡ true
-        → moveOf N b nexts (pick ahead ss) ≡ takes (takenOf b (bestRecord h)) (getD nexts (h .at) 0 + 1) (next N (bestRecord h) (behind (h .at))) (behind (h .at))
+        → moveOf N b nexts (pick ahead ss) ≡ takes (takenOf b (bestRecord h)) (getD nexts (h .stream .0) 0 + 1) (next N (bestRecord h) (behind (h .stream .0))) (behind (h .stream .0))
     unfolding moveOf
     takes-chosen e = rw (c .is, e)
 
@@ -131,18 +131,22 @@ followed-fine t place o x p q r = rw (check-fine o (sym p ∙ q), r)
 
 -- the turn of a head that is taken, from the rows behind the heads
 module _ (q : List (List ℕ)) (ended : List Bool) (s : Cols) (nexts from to : List ℕ) (n : ℕ) (few : n ≤ 8) (N : ℕ) (b : Base) (h : Best)
-    (c : Chosen q ended (behindBy s nexts from to) n few h) (v : Bool) (lives : v ≡ live b (bestRecord h)) (t : taken b (bestRecord h) ≡ true) where
+    (c : Chosen q ended (behindBy s nexts from to) n few h) (v : Bool) (lives : v ≡ live b (bestRecord h)) (t : taken b (bestRecord h) ≡ true) (k : ℕ) (place : k ≡ h .stream .0) where
   abbrev pub head-taken : Taken
-  head-taken = record { at = h .at; live = v; row = h .row; start = h .start; stop = h .stop }
+  head-taken = record { stream = h .stream; live = v; row = h .row; start = h .start; stop = h .stop }
 
-  turns : moveOf N b nexts (pick ahead (build (leftAt q ended (behindBy s nexts from to)) n 0))
-      ≡ takes head-taken (getD nexts (h .at) 0 + 1) (next N (bestRecord h) (behindBy s nexts from to (h .at))) (behindBy s nexts from to (h .at))
-  turns = takes-chosen q ended (behindBy s nexts from to) n few N b nexts h c t ∙ rw lives
+  abbrev answer : Move
+  answer = moveOf N b nexts (pick ahead (build (leftAt q ended (behindBy s nexts from to)) n 0))
 
-  pub decided-ends : getD to (h .at) 0 ≤ getD nexts (h .at) 0 → move.Ends head-taken ≡ moveOf N b nexts (pick ahead (build (leftAt q ended (behindBy s nexts from to)) n 0))
-  decided-ends e = sym (turns ∙ takes-last N s (getD from (h .at) 0) (getD to (h .at) 0) (h .at) (getD nexts (h .at) 0) head-taken (bestRecord h) e)
+  turns : answer ≡ takes head-taken (getD nexts k 0 + 1) (next N (bestRecord h) (behindBy s nexts from to k)) (behindBy s nexts from to k)
+  turns = takes-chosen q ended (behindBy s nexts from to) n few N b nexts h c t ∙ rw (lives, place)
 
-  pub decided-follows : (r : Move) → getD nexts (h .at) 0 < getD to (h .at) 0
-      → r ≡ takes head-taken (getD nexts (h .at) 0 + 1) (fault N (Option.some (bestRecord h .it)) (rowAt s (getD from (h .at) 0) (h .at) (getD nexts (h .at) 0))) (rowAt s (getD from (h .at) 0) (h .at) (getD nexts (h .at) 0) ∷ [])
-      → r ≡ moveOf N b nexts (pick ahead (build (leftAt q ended (behindBy s nexts from to)) n 0))
-  decided-follows r e z = z ∙ sym (turns ∙ takes-more N s (getD from (h .at) 0) (getD to (h .at) 0) (h .at) (getD nexts (h .at) 0) head-taken (bestRecord h) e)
+  pub decided-ends : getD to k 0 ≤ getD nexts k 0 → move.Ends head-taken ≡ answer
+  decided-ends e = sym (turns ∙ takes-last N s (getD from k 0) (getD to k 0) k (getD nexts k 0) head-taken (bestRecord h) e)
+
+  -- from the row that stands at the next place, as one of stream i
+  abbrev by-row : ℕ → Move
+  by-row i = takes head-taken (getD nexts k 0 + 1) (fault N (Option.some (bestRecord h .it)) (rowAt s (getD from k 0) i (getD nexts k 0))) (rowAt s (getD from k 0) i (getD nexts k 0) ∷ [])
+
+  pub decided-follows : (r : Move) → getD nexts k 0 < getD to k 0 → r ≡ by-row (h .stream .0) → r ≡ answer
+  decided-follows r e z = z ∙ ap by-row (sym place) ∙ sym (turns ∙ takes-more N s (getD from k 0) (getD to k 0) k (getD nexts k 0) head-taken (bestRecord h) e)

@@ -24,11 +24,13 @@ use Rattle.rules.specs.Pull.{Pull, paused, ends, unlessWrong, turn, pull}
 use Rattle.theory.proofs.MergeLaws.{Took, picked}
 use Rattle.theory.proofs.Turns.{pull-turn}
 use Rattle.heads.specs.declared.Heads.{Heads}
+use Rattle.heads.specs.declared.Best.{Best}
 use Rattle.heads.specs.declared.Taken.{Taken}
 use Rattle.heads.specs.declared.Next.{Next}
 use Rattle.heads.specs.declared.Move.{Move}
 use Rattle.heads.specs.declared.Move.the-variants as move
-use Rattle.heads.specs.View.{Cols, recordOf, rowAt, rowsFrom, unlessEnded, recordFrom, fourAt, foursOf, leftAt, behindAt, headAt, restAt, restsOf}
+use Rattle.heads.specs.View.{Cols, recordIn, rowAt, rowsFrom, unlessEnded, recordFrom, fourAt, foursOf, leftAt, behindAt, headAt, restAt, restsOf}
+use Rattle.heads.specs.Least.{headOf, bestOf}
 use Rattle.heads.specs.Move.{nextRecord, takenOf, nextOf, takes, moveOf, behindBy, Placed, Shaped, endsAt, goesAt, moved, takenRecord}
 use Rattle.heads.proofs.MoveLaws.{Standing, standing}
 
@@ -68,7 +70,7 @@ module _ (s : Cols) (h : Heads) (k : ℕ) (in8 : Shaped h) (few : h .streams ≤
       ∙ ap (set (build (restAt s h) (h .streams) 0) k) (ap (λ (t : Bool). unlessEnded t (headAt h k ∷ behindAt s h k)) (getD-set-same (h .ended) k true false (omega (arith, in8 .ended))))
 
   -- the new head, and the rows from its next place on
-  pub goes-rests : (x : Next) → getD (h .ended) k false ≡ false → restsOf s (goesAt h k x) ≡ set (restsOf s h) k (nextRecord k x ∷ rowsFrom s (getD (h .from) k 0) (getD (h .to) k 0) k (x .next))
+  pub goes-rests : (x : Next) → getD (h .ended) k false ≡ false → restsOf s (goesAt h k x) ≡ set (restsOf s h) k (nextRecord (record { 0 = k }) x ∷ rowsFrom s (getD (h .from) k 0) (getD (h .to) k 0) k (x .next))
   unfolding restsOf
   goes-rests x live =
       let inC : k < length (h .chrom) = omega (arith, in8 .chrom) in
@@ -90,23 +92,23 @@ queued N b full Q queue t ss =
 
 -- what a turn does to a pull
 abbrev pub onMove : Cols → Heads → ℕ → Base → End → ℕ → List Record → Move → Pull Record End
-onMove s h N b full Q queue move.Stay = paused (restsOf s h) queue
+onMove s h N b full Q queue (move.Stay x) = paused (restsOf s h) queue
 onMove s h N b full Q queue (move.Wrong e) = ends e
-onMove s h N b full Q queue (move.Ends t) = queued N b full Q queue t (restsOf s (endsAt h (t .at)))
-onMove s h N b full Q queue (move.Goes t x) = queued N b full Q queue t (restsOf s (goesAt h (t .at) x))
+onMove s h N b full Q queue (move.Ends t) = queued N b full Q queue t (restsOf s (endsAt h (t .stream .0)))
+onMove s h N b full Q queue (move.Goes t x) = queued N b full Q queue t (restsOf s (goesAt h (t .stream .0) x))
 
 -- a turn that takes a head leaves one row less
 abbrev pub Shorter : Cols → Heads → Move → Type 0
-Shorter s h move.Stay = Unit {0}
+Shorter s h (move.Stay x) = Unit {0}
 Shorter s h (move.Wrong e) = Unit {0}
-Shorter s h (move.Ends t) = total (restsOf s h) ≡ suc (total (restsOf s (endsAt h (t .at))))
-Shorter s h (move.Goes t x) = total (restsOf s h) ≡ suc (total (restsOf s (goesAt h (t .at) x)))
+Shorter s h (move.Ends t) = total (restsOf s h) ≡ suc (total (restsOf s (endsAt h (t .stream .0))))
+Shorter s h (move.Goes t x) = total (restsOf s h) ≡ suc (total (restsOf s (goesAt h (t .stream .0) x)))
 
 -- a live record lies on the base's chromosome
 taken-same : (b : Base) (a : Record) → live b a ≡ true → takenRecord b (takenOf b a) ≡ a
 taken-same b a e =
     let on : a .it .chrom .0 ≡ b .chrom .0 = eqb-true (a .it .chrom .0) (b .chrom .0) (and-left (eqb (a .it .chrom .0) (b .chrom .0)) _ e) in
-    ap (λ (c : ℕ). recordOf (a .stream .0) c (a .it .start) (a .it .stop) (a .row)) (sym on)
+    ap (λ (c : ℕ). recordIn (a .stream) (record { 0 = c }) (a .it .start) (a .it .stop) (a .row)) (sym on)
 
 module _ (s : Cols) (h : Heads) (in8 : Shaped h) (few : h .streams ≤ 8) (N : ℕ) (b : Base) where
   abbrev pub move-here : Move
@@ -120,11 +122,11 @@ module _ (s : Cols) (h : Heads) (in8 : Shaped h) (few : h .streams ≤ 8) (N : �
 
   -- the first of the rows behind a head is the one at the next place
   first-row : (k : ℕ) (x : Record) (l : List Record) → behindAt s h k ≡ x ∷ l
-      → nextRecord k (nextOf x (getD (h .next) k 0 + 1)) ∷ rowsFrom s (getD (h .from) k 0) (getD (h .to) k 0) k (getD (h .next) k 0 + 1) ≡ x ∷ l
+      → nextRecord (record { 0 = k }) (nextOf x (getD (h .next) k 0 + 1)) ∷ rowsFrom s (getD (h .from) k 0) (getD (h .to) k 0) k (getD (h .next) k 0 + 1) ≡ x ∷ l
   first-row k x l e = go (leb (getD (h .to) k 0) (getD (h .next) k 0)) refl
     where
       go : (t : Bool) → leb (getD (h .to) k 0) (getD (h .next) k 0) ≡ t
-          → nextRecord k (nextOf x (getD (h .next) k 0 + 1)) ∷ rowsFrom s (getD (h .from) k 0) (getD (h .to) k 0) k (getD (h .next) k 0 + 1) ≡ x ∷ l
+          → nextRecord (record { 0 = k }) (nextOf x (getD (h .next) k 0 + 1)) ∷ rowsFrom s (getD (h .from) k 0) (getD (h .to) k 0) k (getD (h .next) k 0 + 1) ≡ x ∷ l
       go true u =
           let none-left : [] ≡ x ∷ l = sym (build-none (rowAt s (getD (h .from) k 0) k) (getD (h .to) k 0) (getD (h .next) k 0) (leb-true (getD (h .to) k 0) (getD (h .next) k 0) u)) ∙ e in
           let w : _≡_ {A = ℕ} 0 1 = cc in absurd (omega arith)
@@ -132,7 +134,7 @@ module _ (s : Cols) (h : Heads) (in8 : Shaped h) (few : h .streams ≤ 8) (N : �
           let whole : rowAt s (getD (h .from) k 0) k (getD (h .next) k 0) ∷ rowsFrom s (getD (h .from) k 0) (getD (h .to) k 0) k (getD (h .next) k 0 + 1) ≡ x ∷ l =
           sym (build-front (rowAt s (getD (h .from) k 0) k) (getD (h .to) k 0) (getD (h .next) k 0) (leb-false (getD (h .to) k 0) (getD (h .next) k 0) u)) ∙ e in
           let is : x ≡ rowAt s (getD (h .from) k 0) k (getD (h .next) k 0) = cc in
-          ap (λ (r : Record). nextRecord k (nextOf r (getD (h .next) k 0 + 1)) ∷ rowsFrom s (getD (h .from) k 0) (getD (h .to) k 0) k (getD (h .next) k 0 + 1)) is ∙ whole
+          ap (λ (r : Record). nextRecord (record { 0 = k }) (nextOf r (getD (h .next) k 0 + 1)) ∷ rowsFrom s (getD (h .from) k 0) (getD (h .to) k 0) k (getD (h .next) k 0 + 1)) is ∙ whole
 
   stands : (a : Record) (rest : List Record) (ts : List (List Record)) → pick ahead (restsOf s h) ≡ one a rest ts → Standing (q s h) (h .ended) (after s h) (h .streams) few a rest ts
   stands a rest ts z = standing (q s h) (h .ended) (after s h) (h .streams) few a rest ts (ap (pick ahead) (rests-shown s h few) ∙ z)
@@ -175,7 +177,7 @@ module _ (s : Cols) (h : Heads) (in8 : Shaped h) (few : h .streams ≤ 8) (N : �
         go (one a rest ts) z = case (taken b a)
           where
             case : (t : Bool) → cond t (unlessWrong (next N a rest) (cond (live b a) (cond (leb Q (length queue)) (ends full) (pull ahead (next N) full (taken b) (live b) Q ts (queue ++ a ∷ []))) (pull ahead (next N) full (taken b) (live b) Q ts queue))) (paused (restsOf s h) queue)
-                ≡ onMove s h N b full Q queue (cond t (takes (takenOf b a) (getD (h .next) (a .stream .0) 0 + 1) (next N a rest) rest) move.Stay)
+                ≡ onMove s h N b full Q queue (cond t (takes (takenOf b a) (getD (h .next) (a .stream .0) 0 + 1) (next N a rest) rest) (move.Stay (headOf a)))
             case true = took-move a rest ts (left-by a rest ts z) (next N a rest) rest refl
             case false = refl
 
@@ -188,7 +190,7 @@ module _ (s : Cols) (h : Heads) (in8 : Shaped h) (few : h .streams ≤ 8) (N : �
       go none z = tt
       go (one a rest ts) z = case (taken b a) (next N a rest) rest refl
         where
-          case : (t : Bool) (o : Option End) (k : List Record) → rest ≡ k → Shorter s h (cond t (takes (takenOf b a) (getD (h .next) (a .stream .0) 0 + 1) o k) move.Stay)
+          case : (t : Bool) (o : Option End) (k : List Record) → rest ≡ k → Shorter s h (cond t (takes (takenOf b a) (getD (h .next) (a .stream .0) 0 + 1) o k) (move.Stay (headOf a)))
           case false o k q = tt
           case true (Option.some e) k q = tt
           case true Option.none [] q = left-by a rest ts z .fewer ∙ ap (λ (l : List (List Record)). suc (total l)) (sym (left-by a rest ts z .last q))
@@ -217,7 +219,7 @@ module _ (s : Cols) (h : Heads) (in8 : Shaped h) (few : h .streams ≤ 8) (N : �
       go none = p
       go (one a rest ts) = case (taken b a) (next N a rest) rest
         where
-          case : (t : Bool) (o : Option End) (k : List Record) → Fit (moved h (cond t (takes (takenOf b a) (getD (h .next) (a .stream .0) 0 + 1) o k) move.Stay))
+          case : (t : Bool) (o : Option End) (k : List Record) → Fit (moved h (cond t (takes (takenOf b a) (getD (h .next) (a .stream .0) 0 + 1) o k) (move.Stay (headOf a))))
           case false o k = p
           case true (Option.some e) k = p
           case true Option.none [] = p
@@ -225,10 +227,10 @@ module _ (s : Cols) (h : Heads) (in8 : Shaped h) (few : h .streams ≤ 8) (N : �
 
   -- a head that is taken is one of a stream
   abbrev pub InPlace : Move → Type 0
-  InPlace move.Stay = Unit {0}
+  InPlace (move.Stay x) = Unit {0}
   InPlace (move.Wrong e) = Unit {0}
-  InPlace (move.Ends t) = t .at < h .streams
-  InPlace (move.Goes t x) = t .at < h .streams
+  InPlace (move.Ends t) = t .stream .0 < h .streams
+  InPlace (move.Goes t x) = t .stream .0 < h .streams
 
   pub in-place : InPlace move-here
   unfolding moveOf
@@ -238,11 +240,26 @@ module _ (s : Cols) (h : Heads) (in8 : Shaped h) (few : h .streams ≤ 8) (N : �
       go none z = tt
       go (one a rest ts) z = case (taken b a) (next N a rest) rest
         where
-          case : (t : Bool) (o : Option End) (k : List Record) → InPlace (cond t (takes (takenOf b a) (getD (h .next) (a .stream .0) 0 + 1) o k) move.Stay)
+          case : (t : Bool) (o : Option End) (k : List Record) → InPlace (cond t (takes (takenOf b a) (getD (h .next) (a .stream .0) 0 + 1) o k) (move.Stay (headOf a)))
           case false o k = tt
           case true (Option.some e) k = tt
           case true Option.none [] = stands a rest ts z .place
           case true Option.none (x ∷ l) = stands a rest ts z .place
+
+  -- a turn that takes nothing tells the head that the merge would take next
+  pub stayed : (x : Best) → move-here ≡ move.Stay x → x ≡ bestOf (pick ahead (restsOf s h))
+  unfolding moveOf
+  stayed x = go (pick ahead (restsOf s h))
+    where
+      go : (o : Pick Record) → moveOf N b (h .next) o ≡ move.Stay x → x ≡ bestOf o
+      go none e = cc
+      go (one a rest ts) e = case (taken b a) (next N a rest) rest e
+        where
+          case : (t : Bool) (o : Option End) (k : List Record) → cond t (takes (takenOf b a) (getD (h .next) (a .stream .0) 0 + 1) o k) (move.Stay (headOf a)) ≡ move.Stay x → x ≡ headOf a
+          case false o k z = cc
+          case true (Option.some f) k z = let w : _≡_ {A = ℕ} 0 1 = cc in absurd (omega arith)
+          case true Option.none [] z = let w : _≡_ {A = ℕ} 0 1 = cc in absurd (omega arith)
+          case true Option.none (y ∷ l) z = let w : _≡_ {A = ℕ} 0 1 = cc in absurd (omega arith)
 
   -- what `decide` answers is the turn of these heads
   pub decided : (m : Move) (p : List (List ℕ)) → p ≡ q s h → m ≡ moveOf N b (h .next) (pick ahead (build (leftAt p (h .ended) (after s h)) (h .streams) 0)) → m ≡ move-here
@@ -250,14 +267,14 @@ module _ (s : Cols) (h : Heads) (in8 : Shaped h) (few : h .streams ≤ 8) (N : �
 
 -- the arrays after a turn have their eight places
 pub moved-shaped : (h : Heads) (m : Move) → Shaped h → Shaped (moved h m)
-moved-shaped h move.Stay w = w
+moved-shaped h (move.Stay x) w = w
 moved-shaped h (move.Wrong e) w = w
-moved-shaped h (move.Ends t) w = record { chrom = w .chrom; start = w .start; stop = w .stop; row = w .row; ended = length-set (h .ended) (t .at) true ∙ w .ended; next = w .next }
+moved-shaped h (move.Ends t) w = record { chrom = w .chrom; start = w .start; stop = w .stop; row = w .row; ended = length-set (h .ended) (t .stream .0) true ∙ w .ended; next = w .next }
 moved-shaped h (move.Goes t x) w = record {
-  chrom = length-set (h .chrom) (t .at) (x .chrom) ∙ w .chrom;
-  start = length-set (h .start) (t .at) (x .start) ∙ w .start;
-  stop = length-set (h .stop) (t .at) (x .stop) ∙ w .stop;
-  row = length-set (h .row) (t .at) (x .row) ∙ w .row;
+  chrom = length-set (h .chrom) (t .stream .0) (x .chrom .0) ∙ w .chrom;
+  start = length-set (h .start) (t .stream .0) (x .start) ∙ w .start;
+  stop = length-set (h .stop) (t .stream .0) (x .stop) ∙ w .stop;
+  row = length-set (h .row) (t .stream .0) (x .row) ∙ w .row;
   ended = w .ended;
-  next = length-set (h .next) (t .at) (x .next) ∙ w .next;
+  next = length-set (h .next) (t .stream .0) (x .next) ∙ w .next;
 }

@@ -22,7 +22,7 @@ firstOf s h k = nextOf (rowAt s (getD (h .from) k 0) k (getD (h .next) k 0)) (ge
 
 -- the heads with x for the first head of stream k
 abbrev pub opensAt : Heads → ℕ → Next → Heads
-opensAt h k x = record { chrom = set (h .chrom) k (x .chrom); start = set (h .start) k (x .start); stop = set (h .stop) k (x .stop); row = set (h .row) k (x .row); ended = set (h .ended) k false; next = set (h .next) k (x .next); from = h .from; to = h .to; streams = h .streams }
+opensAt h k x = record { chrom = set (h .chrom) k (x .chrom .0); start = set (h .start) k (x .start); stop = set (h .stop) k (x .stop); row = set (h .row) k (x .row); ended = set (h .ended) k false; next = set (h .next) k (x .next); from = h .from; to = h .to; streams = h .streams }
 
 -- the first head of stream k is loaded; a stream with no rows has ended
 unfoldable pub loadOne : Cols → Heads → ℕ → Heads

@@ -7,6 +7,8 @@ use Prim.Native.Nat.{ℕ, _+_, _≤_, _<_}
 use lib.ListN.{length, getD, set}
 use Rattle.rules.specs.declared.Base.{Base}
 use Rattle.rules.specs.declared.End.{End}
+use Rattle.rules.specs.declared.Row.{Row}
+use Rattle.rules.specs.declared.Stream.{Stream}
 use Rattle.rules.specs.Rows.{Record}
 use Rattle.rules.specs.Merge.{Pick, none, one}
 use Rattle.rules.specs.Streams.{next}
@@ -19,15 +21,19 @@ use Rattle.heads.specs.declared.Check.{Check}
 use Rattle.heads.specs.declared.Check.the-variants as check
 use Rattle.heads.specs.declared.Move.{Move}
 use Rattle.heads.specs.declared.Move.the-variants as move
-use Rattle.heads.specs.View.{Cols, recordOf, rowsFrom}
+use Rattle.heads.specs.View.{Cols, recordIn, rowsFrom}
+use Rattle.heads.specs.Least.{noBest, headOf}
 
 -- a head as a record
 abbrev pub bestRecord : Best → Record
-bestRecord h = recordOf (h .at) (h .chrom) (h .start) (h .stop) (h .row)
+bestRecord h = recordIn (h .stream) (h .chrom) (h .start) (h .stop) (h .row)
 
--- a row that was read, as a record of stream k
-abbrev pub nextRecord : ℕ → Next → Record
-nextRecord k x = recordOf k (x .chrom) (x .start) (x .stop) (x .row)
+-- a row that was read, and as a record of stream k
+abbrev pub nextRow : Next → Row
+nextRow x = record { chrom = x .chrom; start = x .start; stop = x .stop }
+
+abbrev pub nextRecord : Stream → Next → Record
+nextRecord k x = record { stream = k; row = x .row; it = nextRow x }
 
 -- what is wrong with a row, as the code answers it
 abbrev pub checkOf : Option End → Check
@@ -36,10 +42,10 @@ checkOf (Option.some e) = check.Wrong e
 
 -- the record that is taken at b, and the row behind it with the place after it
 abbrev pub takenOf : Base → Record → Taken
-takenOf b a = record { at = a .stream .0; live = live b a; row = a .row; start = a .it .start; stop = a .it .stop }
+takenOf b a = record { stream = a .stream; live = live b a; row = a .row; start = a .it .start; stop = a .it .stop }
 
 abbrev pub nextOf : Record → ℕ → Next
-nextOf x place = record { chrom = x .it .chrom .0; start = x .it .start; stop = x .it .stop; row = x .row; next = place }
+nextOf x place = record { chrom = x .it .chrom; start = x .it .start; stop = x .it .stop; row = x .row; next = place }
 
 -- a record is taken, what is wrong behind it, and the rows behind it, the first of which stands ahead of `place`
 abbrev pub takes : Taken → ℕ → Option End → List Record → Move
@@ -49,8 +55,8 @@ takes t place Option.none (x ∷ rest) = move.Goes t (nextOf x place)
 
 -- "heads are taken while [..] For each one taken, its successor is read and checked (7, 8)."
 unfoldable pub moveOf : ℕ → Base → List ℕ → Pick Record → Move
-moveOf n b nexts none = move.Stay
-moveOf n b nexts (one a rest ts) = cond (taken b a) (takes (takenOf b a) (getD nexts (a .stream .0) 0 + 1) (next n a rest) rest) move.Stay
+moveOf n b nexts none = move.Stay noBest
+moveOf n b nexts (one a rest ts) = cond (taken b a) (takes (takenOf b a) (getD nexts (a .stream .0) 0 + 1) (next n a rest) rest) (move.Stay (headOf a))
 
 -- the rows behind the heads, by the streams' places
 abbrev pub behindBy : Cols → List ℕ → List ℕ → List ℕ → ℕ → List Record
@@ -72,14 +78,14 @@ abbrev pub endsAt : Heads → ℕ → Heads
 endsAt h k = record { chrom = h .chrom; start = h .start; stop = h .stop; row = h .row; ended = set (h .ended) k true; next = h .next; from = h .from; to = h .to; streams = h .streams }
 
 abbrev pub goesAt : Heads → ℕ → Next → Heads
-goesAt h k x = record { chrom = set (h .chrom) k (x .chrom); start = set (h .start) k (x .start); stop = set (h .stop) k (x .stop); row = set (h .row) k (x .row); ended = h .ended; next = set (h .next) k (x .next); from = h .from; to = h .to; streams = h .streams }
+goesAt h k x = record { chrom = set (h .chrom) k (x .chrom .0); start = set (h .start) k (x .start); stop = set (h .stop) k (x .stop); row = set (h .row) k (x .row); ended = h .ended; next = set (h .next) k (x .next); from = h .from; to = h .to; streams = h .streams }
 
 -- the heads after a turn
 abbrev pub moved : Heads → Move → Heads
-moved h move.Stay = h
+moved h (move.Stay x) = h
 moved h (move.Wrong e) = h
-moved h (move.Ends t) = endsAt h (t .at)
-moved h (move.Goes t x) = goesAt h (t .at) x
+moved h (move.Ends t) = endsAt h (t .stream .0)
+moved h (move.Goes t x) = goesAt h (t .stream .0) x
 
 -- each array has its eight places
 pub record Shaped (h : Heads) : Type 0 where
@@ -92,4 +98,4 @@ pub record Shaped (h : Heads) : Type 0 where
 
 -- a record that is taken and live, which lies on the base's chromosome
 abbrev pub takenRecord : Base → Taken → Record
-takenRecord b t = recordOf (t .at) (b .chrom .0) (t .start) (t .stop) (t .row)
+takenRecord b t = recordIn (t .stream) (b .chrom) (t .start) (t .stop) (t .row)

@@ -5,6 +5,8 @@ use mathlib.Core.List.{List, [], _∷_}
 use Prim.Native.Nat.{ℕ, _-_, _<_, _≤_}
 use lib.ListN.{length, getD}
 use Rattle.lists.specs.Build.{build}
+use Rattle.rules.specs.declared.Stream.{Stream}
+use Rattle.rules.specs.declared.Chrom.{Chrom}
 use Rattle.rules.specs.Rows.{Record}
 use Rattle.heads.specs.declared.Heads.{Heads}
 
@@ -17,9 +19,12 @@ pub record Cols : Type 0 where
 abbrev pub cols : List ℕ → List ℕ → List ℕ → Cols
 cols c a e = record { chrom = c; start = a; stop = e }
 
--- a record of four numbers
+-- a record of a stream, from its chromosome, start, stop and row; and from plain numbers
+abbrev pub recordIn : Stream → Chrom → ℕ → ℕ → ℕ → Record
+recordIn stream c a e row = record { stream = stream; row = row; it = record { chrom = c; start = a; stop = e } }
+
 abbrev pub recordOf : ℕ → ℕ → ℕ → ℕ → ℕ → Record
-recordOf stream c a e row = record { stream = record { 0 = stream }; row = row; it = record { chrom = record { 0 = c }; start = a; stop = e } }
+recordOf stream c a e row = recordIn (record { 0 = stream }) (record { 0 = c }) a e row
 
 -- the record at place p of the columns, in stream k, whose rows begin at `from`
 abbrev pub rowAt : Cols → ℕ → ℕ → ℕ → Record

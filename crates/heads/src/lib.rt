@@ -5,7 +5,7 @@ ghost use mathlib.Core.List.{List, [], _∷_};
 ghost use Prim.Native.Nat.{ℕ, _+_, _-_, _<_, _≤_};
 ghost use lib.ListN.{length, getD};
 ghost use mathlib.Core.Option.{none, some};
-ghost use Rattle.rules.specs.Rows.{fault};
+ghost use Rattle.rules.specs.Rows.{good, follows, fault};
 ghost use Rattle.rules.specs.Overlap.{taken, live};
 ghost use Rattle.rules.specs.Streams.{ahead};
 ghost use Rattle.rules.specs.Merge.{pick};
@@ -13,9 +13,10 @@ ghost use Rattle.lists.specs.Build.{build};
 ghost use Rattle.heads.specs.View.{cols, rowAt, foursOf, leftAt};
 ghost use Rattle.heads.specs.Least.{headOf, sooner, bestAt, betterOf, leastIn};
 ghost use Rattle.heads.specs.Load.{opensAt, loadOne, wrongFirst, unlessWrongIn, LoadsAs};
-ghost use Rattle.heads.specs.Move.{endsAt, bestRecord, nextRecord, checkOf, takes, moveOf, behindBy, PlacedIn, Placed, nextOf};
+ghost use Rattle.heads.specs.Move.{endsAt, bestRecord, nextRow, nextRecord, checkOf, takes, moveOf, behindBy, PlacedIn, Placed, nextOf};
 ghost use Rattle.lists.specs.Lists.{Says};
 use rules::Base;
+use rules::Chrom;
 use rules::End;
 use rules::Stream;
 
@@ -33,18 +34,18 @@ pub struct Heads {
     pub streams: usize,
 }
 
-// A head and its stream's place; 8 where there is none.
+// A head and its stream; stream 8 where there is none.
 pub struct Best {
-    pub at: usize,
-    pub chrom: u64,
+    pub stream: Stream,
+    pub chrom: Chrom,
     pub start: u64,
     pub stop: u64,
     pub row: u64,
 }
 
-// A head that is taken: its stream's place, whether it is live for the base, its row, start and stop.
+// A head that is taken: its stream, whether it is live for the base, its row, start and stop.
 pub struct Taken {
-    pub at: usize,
+    pub stream: Stream,
     pub live: bool,
     pub row: u64,
     pub start: u64,
@@ -53,7 +54,7 @@ pub struct Taken {
 
 // A row that was read, and the place after it in the lent columns.
 pub struct Next {
-    pub chrom: u64,
+    pub chrom: Chrom,
     pub start: u64,
     pub stop: u64,
     pub row: u64,
@@ -68,8 +69,8 @@ pub enum Check {
 
 // What a turn of a pull comes to.
 pub enum Move {
-    // No head is to be taken.
-    Stay,
+    // No head is to be taken; the least one, of stream 8 where there is none.
+    Stay(Best),
     // The row behind the head that is to be taken is at fault.
     Wrong(End),
     // A head is taken, and its stream has ended.
@@ -89,6 +90,13 @@ fn number(x: usize) -> u64
     ensures { λ r. ⌜ r ≡ x ⌝ }
 {
     x as u64
+}
+
+// A stream's number as its place in the arrays.
+pub fn place_in(x: u64) -> usize
+    ensures { λ r. ⌜ r ≡ x ⌝ }
+{
+    x as usize
 }
 
 // The heads as eight four-number arrays.
@@ -111,10 +119,11 @@ pub fn fours(chrom: [u64; 8], start: [u64; 8], stop: [u64; 8], row: [u64; 8]) ->
 fn is_sooner(b: Best, x: [u64; 4]) -> bool
     ensures { λ r. ⌜ r ≡ sooner b x ⌝ }
 {
-    if b.chrom < x[0] {
+    let c = b.chrom;
+    if c.0 < x[0] {
         return true;
     }
-    if x[0] < b.chrom {
+    if x[0] < c.0 {
         return false;
     }
     if b.start < x[1] {
@@ -127,12 +136,12 @@ fn is_sooner(b: Best, x: [u64; 4]) -> bool
 }
 
 // Four numbers as the head of stream k.
-fn best_at(k: usize, x: [u64; 4]) -> Best
+fn best_at(k: Stream, x: [u64; 4]) -> Best
     ensures { λ r. ⌜ r ≡ bestAt k x ⌝ }
 {
     Best {
-        at: k,
-        chrom: x[0],
+        stream: k,
+        chrom: Chrom(x[0]),
         start: x[1],
         stop: x[2],
         row: x[3],
@@ -140,16 +149,17 @@ fn best_at(k: usize, x: [u64; 4]) -> Best
 }
 
 // The better of stream k's head and the best of the streams after it: the earlier stream's, unless the other is before it.
-fn better(k: usize, n: usize, x: [u64; 4], dead: bool, b: Best) -> Best
+fn better(k: Stream, n: u64, x: [u64; 4], dead: bool, b: Best) -> Best
     ensures { λ r. ⌜ r ≡ betterOf k n x dead b ⌝ }
 {
-    if n <= k {
+    if n <= k.0 {
         return b;
     }
     if dead {
         return b;
     }
-    if b.at == 8 {
+    let s = b.stream;
+    if s.0 == 8 {
         return best_at(k, x);
     }
     if is_sooner(b, x) {
@@ -164,24 +174,25 @@ pub fn least_of(q: [[u64; 4]; 8], ended: [bool; 8], n: usize) -> Best
     ensures { λ r. ⌜ r ≡ leastIn q ended n ⌝ }
 {
     let none = Best {
-        at: 8,
-        chrom: 0,
+        stream: Stream(8),
+        chrom: Chrom(0),
         start: 0,
         stop: 0,
         row: 0,
     };
+    let m = number(n);
     if n <= 2 {
-        let one = better(1, n, q[1], ended[1], none);
-        return better(0, n, q[0], ended[0], one);
+        let one = better(Stream(1), m, q[1], ended[1], none);
+        return better(Stream(0), m, q[0], ended[0], one);
     }
-    let seven = better(7, n, q[7], ended[7], none);
-    let six = better(6, n, q[6], ended[6], seven);
-    let five = better(5, n, q[5], ended[5], six);
-    let four = better(4, n, q[4], ended[4], five);
-    let three = better(3, n, q[3], ended[3], four);
-    let two = better(2, n, q[2], ended[2], three);
-    let one = better(1, n, q[1], ended[1], two);
-    better(0, n, q[0], ended[0], one)
+    let seven = better(Stream(7), m, q[7], ended[7], none);
+    let six = better(Stream(6), m, q[6], ended[6], seven);
+    let five = better(Stream(5), m, q[5], ended[5], six);
+    let four = better(Stream(4), m, q[4], ended[4], five);
+    let three = better(Stream(3), m, q[3], ended[3], four);
+    let two = better(Stream(2), m, q[2], ended[2], three);
+    let one = better(Stream(1), m, q[1], ended[1], two);
+    better(Stream(0), m, q[0], ended[0], one)
 }
 
 // Whether a head is taken at a base: it lies on an earlier chromosome, or on the base's with start < base stop.
@@ -189,10 +200,11 @@ pub fn is_taken(b: Base, h: Best) -> bool
     ensures { λ r. ⌜ r ≡ taken b (bestRecord h) ⌝ }
 {
     let c = b.chrom;
-    if h.chrom < c.0 {
+    let d = h.chrom;
+    if d.0 < c.0 {
         return true;
     }
-    if c.0 < h.chrom {
+    if c.0 < d.0 {
         return false;
     }
     h.start < b.stop
@@ -203,59 +215,63 @@ pub fn is_live(b: Base, h: Best) -> bool
     ensures { λ r. ⌜ r ≡ live b (bestRecord h) ⌝ }
 {
     let c = b.chrom;
-    if h.chrom == c.0 {
+    let d = h.chrom;
+    if d.0 == c.0 {
         return b.start < h.stop;
     }
     false
 }
 
-// 7 and 8, with stream and row.
-fn faulty(k: usize, row: u64) -> Check
-    ensures { λ r. ⌜ r ≡ Check.Wrong (End.Faulty (record { 0 = k }) row) ⌝ }
+// Whether a row's chromosome is one of n, and its start no later than its stop; else 7.
+fn is_good(n: u64, x: Next) -> bool
+    ensures { λ r. ⌜ r ≡ good n (nextRow x) ⌝ }
 {
-    Check::Wrong(End::Faulty(Stream(number(k)), row))
+    let c = x.chrom;
+    if n <= c.0 {
+        return false;
+    }
+    x.start <= x.stop
 }
 
-fn unsorted(k: usize, row: u64) -> Check
-    ensures { λ r. ⌜ r ≡ Check.Wrong (End.Unsorted (record { 0 = k }) row) ⌝ }
+// Whether a row is in order behind a head, by chromosome and start; else 8.
+fn is_ordered(h: Best, x: Next) -> bool
+    ensures { λ r. ⌜ r ≡ follows (bestRecord h .it) (nextRow x) ⌝ }
 {
-    Check::Wrong(End::Unsorted(Stream(number(k)), row))
+    let c = h.chrom;
+    let d = x.chrom;
+    if c.0 < d.0 {
+        return true;
+    }
+    if d.0 < c.0 {
+        return false;
+    }
+    h.start <= x.start
 }
 
 // What is wrong with the first row of stream k, of n chromosomes: 7.
-fn check_first(n: u64, k: usize, x: Next) -> Check
+fn check_first(n: u64, k: Stream, x: Next) -> Check
     ensures { λ r. ⌜ r ≡ checkOf (fault n none (nextRecord k x)) ⌝ }
 {
-    if n <= x.chrom {
-        return faulty(k, x.row);
+    if is_good(n, x) {
+        return Check::Fine;
     }
-    if x.stop < x.start {
-        return faulty(k, x.row);
-    }
-    Check::Fine
+    Check::Wrong(End::Faulty(k, x.row))
 }
 
 // What is wrong with the row behind a head: 7, then 8.
 fn check_behind(n: u64, h: Best, x: Next) -> Check
-    ensures { λ r. ⌜ r ≡ checkOf (fault n (some (bestRecord h .it)) (nextRecord (h .at) x)) ⌝ }
+    ensures { λ r. ⌜ r ≡ checkOf (fault n (some (bestRecord h .it)) (nextRecord (h .stream) x)) ⌝ }
 {
-    let k = h.at;
-    let first = check_first(n, k, x);
-    match first {
-        Check::Wrong(e) => Check::Wrong(e),
-        Check::Fine => {
-            if h.chrom < x.chrom {
-                return Check::Fine;
-            }
-            if x.chrom < h.chrom {
-                return unsorted(k, x.row);
-            }
-            if x.start < h.start {
-                return unsorted(k, x.row);
-            }
-            Check::Fine
-        }
+    let k = h.stream;
+    let good = is_good(n, x);
+    let ordered = is_ordered(h, x);
+    if !good {
+        return Check::Wrong(End::Faulty(k, x.row));
     }
+    if !ordered {
+        return Check::Wrong(End::Unsorted(k, x.row));
+    }
+    Check::Fine
 }
 
 // The row at a place of the columns, in a stream whose rows begin at `first`.
@@ -264,7 +280,7 @@ fn read_row(at: usize, first: usize, chrom: &[u64], start: &[u64], stop: &[u64])
     ensures { λ r. ⌜ r ≡ nextOf (rowAt (cols (now (chrom .entry)) (now (start .entry)) (now (stop .entry))) first 0 at) (at + 1) ⌝ }
 {
     Next {
-        chrom: chrom[at],
+        chrom: Chrom(chrom[at]),
         start: start[at],
         stop: stop[at],
         row: number(at - first),
@@ -284,7 +300,7 @@ fn follow(
     stop: &[u64],
 ) -> Move
     requires { ⌜ (first ≤ at) × (at < length (now chrom)) × (length (now start) ≡ length (now chrom)) × (length (now stop) ≡ length (now chrom)) ⌝ }
-    ensures { λ r. ⌜ r ≡ takes t (at + 1) (fault n (some (bestRecord h .it)) (rowAt (cols (now (chrom .entry)) (now (start .entry)) (now (stop .entry))) first (h .at) at)) (rowAt (cols (now (chrom .entry)) (now (start .entry)) (now (stop .entry))) first (h .at) at ∷ []) ⌝ }
+    ensures { λ r. ⌜ r ≡ takes t (at + 1) (fault n (some (bestRecord h .it)) (rowAt (cols (now (chrom .entry)) (now (start .entry)) (now (stop .entry))) first (h .stream .0) at)) (rowAt (cols (now (chrom .entry)) (now (start .entry)) (now (stop .entry))) first (h .stream .0) at ∷ []) ⌝ }
 {
     let x = read_row(at, first, chrom, start, stop);
     let w = check_behind(n, h, x);
@@ -347,20 +363,21 @@ pub fn decide<'a>(
     ensures { λ r. ⌜ r ≡ moveOf n b (now (next .entry)) (pick ahead (build (leftAt q ended (behindBy (cols (now (chrom .entry)) (now (start .entry)) (now (stop .entry))) (now (next .entry)) (now (from .entry)) (now (to .entry)))) streams 0)) ⌝ }
 {
     let h = least_of(q, ended, streams);
-    let k = h.at;
-    if k == 8 {
-        return Move::Stay;
+    let s = h.stream;
+    if s.0 == 8 {
+        return Move::Stay(h);
     }
     if !is_taken(b, h) {
-        return Move::Stay;
+        return Move::Stay(h);
     }
     let t = Taken {
-        at: k,
+        stream: s,
         live: is_live(b, h),
         row: h.row,
         start: h.start,
         stop: h.stop,
     };
+    let k = place_in(s.0);
     let at = next[k];
     if to[k] <= at {
         return Move::Ends(t);
@@ -386,7 +403,8 @@ impl Heads {
         ensures { λ r. ⌜ r ≡ opensAt self k x ⌝ }
     {
         let mut h = self;
-        h.chrom[k] = x.chrom;
+        let c = x.chrom;
+        h.chrom[k] = c.0;
         h.start[k] = x.start;
         h.stop[k] = x.stop;
         h.row[k] = x.row;
@@ -409,7 +427,8 @@ impl Heads {
             };
         }
         let x = read_row(at, first, chrom, start, stop);
-        let w = check_first(n, k, x);
+        let s = Stream(number(k));
+        let w = check_first(n, s, x);
         match w {
             Check::Wrong(e) => Loaded {
                 heads: self,

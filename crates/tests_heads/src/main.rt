@@ -2,11 +2,14 @@
 // rows at fault.
 ghost use mathlib.Core.Path.{_≡_};
 ghost use Prim.Native.Nat.{_≤_, _<_};
-ghost use Rattle.heads.specs.View.{cols};
-ghost use Rattle.heads.specs.Move.{Placed};
+ghost use Rattle.rules.specs.Merge.{pick};
+ghost use Rattle.rules.specs.Streams.{ahead};
+ghost use Rattle.heads.specs.View.{cols, restsOf};
+ghost use Rattle.heads.specs.Move.{Placed, moveOf, endsAt, goesAt};
 use heads::Check;
 use heads::Heads;
 use heads::Move;
+use heads::Next;
 use heads::Taken;
 use libc::STDOUT_FILENO;
 use rules::Base;
@@ -33,11 +36,66 @@ fn print_end(e: End) {
 
 // A head that is taken: its stream and row, and whether it is live.
 fn print_taken(t: Taken) {
+    let s = t.stream;
     if t.live {
-        print_pair(b"live ", t.at as u64, t.row);
+        print_pair(b"live ", s.0, t.row);
         return;
     }
-    print_pair(b"dead ", t.at as u64, t.row);
+    print_pair(b"dead ", s.0, t.row);
+}
+
+// The next turn of some heads at a base.
+fn turn(h: Heads, b: Base, n: u64, chrom: &[u64], start: &[u64], stop: &[u64]) -> Move
+    requires { ⌜ Placed (cols (now chrom) (now start) (now stop)) (h .streams) (h .next) (h .from) (h .to) ⌝ }
+    ensures { λ r. ⌜ r ≡ moveOf n b (h .next) (pick ahead (restsOf (cols (now (chrom .entry)) (now (start .entry)) (now (stop .entry))) h)) ⌝ }
+{
+    let c = h.chrom;
+    let a = h.start;
+    let e = h.stop;
+    let r = h.row;
+    let q = heads::fours(c, a, e, r);
+    let ended = h.ended;
+    heads::decide(
+        q,
+        ended,
+        h.streams,
+        &h.next,
+        &h.from,
+        &h.to,
+        b,
+        n,
+        chrom,
+        start,
+        stop,
+    )
+}
+
+// The heads after one is taken: its stream has ended, or has the row behind it for its head.
+fn without(h0: Heads, t: Taken) -> Heads
+    requires { ⌜ t .stream .0 < 8 ⌝ }
+    ensures { λ r. ⌜ r ≡ endsAt h0 (t .stream .0) ⌝ }
+{
+    let s = t.stream;
+    let k = heads::place_in(s.0);
+    let mut h = h0;
+    h.ended[k] = true;
+    h
+}
+
+fn with_next(h0: Heads, t: Taken, x: Next) -> Heads
+    requires { ⌜ t .stream .0 < 8 ⌝ }
+    ensures { λ r. ⌜ r ≡ goesAt h0 (t .stream .0) x ⌝ }
+{
+    let s = t.stream;
+    let k = heads::place_in(s.0);
+    let c = x.chrom;
+    let mut h = h0;
+    h.chrom[k] = c.0;
+    h.start[k] = x.start;
+    h.stop[k] = x.stop;
+    h.row[k] = x.row;
+    h.next[k] = x.next;
+    h
 }
 
 // All heads that a base takes.
@@ -47,46 +105,22 @@ fn take_all(h0: Heads, b: Base, n: u64, chrom: &[u64], start: &[u64], stop: &[u6
 {
     let mut h = h0;
     loop {
-        let c = h.chrom;
-        let a = h.start;
-        let e = h.stop;
-        let r = h.row;
-        let q = heads::fours(c, a, e, r);
-        let ended = h.ended;
-        let m = heads::decide(
-            q,
-            ended,
-            h.streams,
-            &h.next,
-            &h.from,
-            &h.to,
-            b,
-            n,
-            chrom,
-            start,
-            stop,
-        );
+        let m = turn(h, b, n, chrom, start, stop);
         match m {
-            Move::Stay => {
+            Move::Stay(_) => {
                 return h;
             }
-            Move::Wrong(x) => {
-                print_end(x);
+            Move::Wrong(e) => {
+                print_end(e);
                 return h;
             }
             Move::Ends(t) => {
                 print_taken(t);
-                let k = t.at;
-                h.ended[k] = true;
+                h = without(h, t);
             }
             Move::Goes(t, x) => {
                 print_taken(t);
-                let k = t.at;
-                h.chrom[k] = x.chrom;
-                h.start[k] = x.start;
-                h.stop[k] = x.stop;
-                h.row[k] = x.row;
-                h.next[k] = x.next;
+                h = with_next(h, t, x);
             }
         }
     }
@@ -184,7 +218,7 @@ fn in_order() {
     );
 }
 
-// Rows at fault: behind a head, by 7 ahead of 8, on an earlier chromosome, first in a stream, not lent.
+// Rows at fault behind a head: by 7, by 7 ahead of 8, on an earlier chromosome.
 fn at_fault() {
     io::write_all(STDOUT_FILENO, b"a row at fault behind a head\n");
     run(
@@ -219,6 +253,10 @@ fn at_fault() {
         base(1, 0, 10),
         base(1, 0, 10),
     );
+}
+
+// A first row at fault, and rows that are not lent.
+fn at_start() {
     io::write_all(STDOUT_FILENO, b"a first row at fault\n");
     run(
         2,
@@ -246,4 +284,5 @@ fn at_fault() {
 fn main() {
     in_order();
     at_fault();
+    at_start();
 }

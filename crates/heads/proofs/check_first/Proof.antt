@@ -1,35 +1,26 @@
--- `check_first` meets its contract: 7 by its two tests.
-use mathlib.Core.Path.{_≡_, sym, ap, _∙_}
+-- `check_first` meets its contract: nothing wrong, or 7.
+use mathlib.Core.Path.{refl, sym, _∙_}
 use mathlib.Core.Option.{none}
-use Rattle.heads.proofs.CheckLaws.{off-list, backward, sound-row}
-use Rattle.heads.specs.Move.{nextRecord, checkOf}
+use Rattle.heads.specs.Move.{nextRecord}
+use Rattle.heads.proofs.CheckLaws.{not-good, in-order}
 use borrow.Author.Needs.{needs}
 use Rattle.heads.proofs.check_first.Statement.{statement}
 use Rattle.heads.proofs.check_first.Tie as tie
 use Rattle.heads.proofs.check_first.Reads as reads
 use Rattle.heads.proofs.check_first.Lts as lts
-use Rattle.heads.proofs.faulty.Reads as faulty-reads
+use Rattle.heads.proofs.is_good.Reads as is-good-reads
 
--- src/lib.rt:229:9
-faulty-requires : tie.Need-faulty-requires
-faulty-requires c κs = search needs
+-- src/lib.rt:255:8
+is-good-requires : tie.Need-is-good-requires
+is-good-requires c κs = search needs
 
--- src/lib.rt:229:9
+-- src/lib.rt:256:9
 returns : tie.Need-returns
-returns c = c .faulty .ensures ∙ ap checkOf (sym (off-list (c .before .before .before .args .n) none (nextRecord (c .before .before .before .args .k) (c .before .before .before .args .x)) (c .before .if1 .taken)))
+returns c = in-order (c .before .before .args .n) none (nextRecord (c .before .before .args .k) (c .before .before .args .x)) (sym (c .before .is-good .ensures) ∙ c .if1 .taken) refl
 
--- src/lib.rt:232:9
-faulty-requires-2 : tie.Need-faulty-requires-2
-faulty-requires-2 c κs = search needs
-
--- src/lib.rt:232:9
+-- src/lib.rt:252:1
 returns-2 : tie.Need-returns-2
-returns-2 c = c .faulty2 .ensures ∙ ap checkOf (sym (backward (c .before .before .before .before .before .args .n) none (nextRecord (c .before .before .before .before .before .args .k) (c .before .before .before .before .before .args .x)) (c .before .if2 .taken)))
-
--- src/lib.rt:225:1
-returns-3 : tie.Need-returns-3
-returns-3 c = ap checkOf (sym (sound-row (c .before .before .before .before .args .n) none (nextRecord (c .before .before .before .before .args .k) (c .before .before .before .before .args .x)) (c .before .before .if1 .left) (c .if2 .left)))
+returns-2 c = not-good (c .before .before .args .n) none (nextRecord (c .before .before .args .k) (c .before .before .args .x)) (sym (c .before .is-good .ensures) ∙ c .if1 .left)
 
 pub check-first-spec : {M : Type 1} → statement M
-check-first-spec =
-    tie.close (tie.spec faulty-requires returns faulty-requires-2 returns-2 returns-3)
+check-first-spec = tie.close (tie.spec is-good-requires returns returns-2)

@@ -21,6 +21,7 @@ use Rattle.heads.proofs.follow.Reads as follow-reads
 use Rattle.heads.proofs.is_live.Reads as is-live-reads
 use Rattle.heads.proofs.is_taken.Reads as is-taken-reads
 use Rattle.heads.proofs.least_of.Reads as least-of-reads
+use Rattle.heads.proofs.place_in.Reads as place-in-reads
 
 abbrev sc : tie.Start → Cols
 sc c = cols (now (c .args .chrom)) (now (c .args .start)) (now (c .args .stop))
@@ -33,69 +34,78 @@ after c = behindBy (sc c) (now (c .args .next)) (now (c .args .from)) (now (c .a
 abbrev Choice : tie.Start → Best → Type 0
 Choice c h = Chosen (c .args .q) (c .args .ended) (after c) (c .args .streams) (c .pre .few) h
 
-choice : (c : tie.Else1) → Choice (c .before .before .before .before .before) (c .before .least-of .result)
+choice : (c : tie.Else1) → Choice (c .before .before .before .before .before .before .before) (c .before .before .before .least-of .result)
 choice c =
-    let a = c .before .before .before .before .before in
-    chosen (a .args .q) (a .args .ended) (after a) (a .args .streams) (a .pre .few) (c .before .least-of .result) (c .before .least-of .ensures) (c .if1 .left)
+    let a = c .before .before .before .before .before .before .before in
+    let l = c .before .before .before .least-of in
+    chosen (a .args .q) (a .args .ended) (after a) (a .args .streams) (a .pre .few) (l .result) (l .ensures) (c .if1 .left)
 
-below : (c : tie.Else1) → c .before .least-of .result .at < 8
-below c = omega (arith, choice c .inside, c .before .before .before .before .before .pre .few)
+-- its place is one of the streams'
+inside : (c : tie.After-place-in) → c .place-in .result < c .before .before .before .before .before .before .before .before .before .before .before .args .streams
+inside c = omega (arith, choice (c .before .before .before .before) .inside, c .place-in .ensures)
 
--- src/lib.rt:285:9
+below : (c : tie.After-place-in) → c .place-in .result < 8
+below c = omega (arith, inside c, c .before .before .before .before .before .before .before .before .before .before .before .pre .few)
+
+-- src/lib.rt:365:9
 least-of-requires : tie.Need-least-of-requires
 least-of-requires c κs = search needs
 
--- src/lib.rt:288:9
+-- src/lib.rt:368:9
 returns : tie.Need-returns
-returns c = sym (stays-none (c .before .before .before .before .before .args .q) (c .before .before .before .before .before .args .ended) (after (c .before .before .before .before .before)) (c .before .before .before .before .before .args .streams) ((c .before .before .before .before .before) .pre .few) (c .before .before .before .before .before .args .n) (c .before .before .before .before .before .args .b) (now (c .before .before .before .before .before .args .next)) (c .before .least-of .result) (c .before .least-of .ensures) (c .if1 .taken))
+returns c = sym (stays-none (c .before .before .before .before .before .before .before .args .q) (c .before .before .before .before .before .before .before .args .ended) (after (c .before .before .before .before .before .before .before)) (c .before .before .before .before .before .before .before .args .streams) ((c .before .before .before .before .before .before .before) .pre .few) (c .before .before .before .before .before .before .before .args .n) (c .before .before .before .before .before .before .before .args .b) (now (c .before .before .before .before .before .before .before .args .next)) (c .before .before .before .least-of .result) (c .before .before .before .least-of .ensures) (c .if1 .taken))
 
--- src/lib.rt:290:9
+-- src/lib.rt:370:9
 is-taken-requires : tie.Need-is-taken-requires
 is-taken-requires c κs = search needs
 
--- src/lib.rt:291:9
+-- src/lib.rt:371:9
 returns-2 : tie.Need-returns-2
-returns-2 c = sym (stays-untaken (c .before .before .before .before .before .before .before .args .q) (c .before .before .before .before .before .before .before .args .ended) (after (c .before .before .before .before .before .before .before)) (c .before .before .before .before .before .before .before .args .streams) ((c .before .before .before .before .before .before .before) .pre .few) (c .before .before .before .before .before .before .before .args .n) (c .before .before .before .before .before .before .before .args .b) (now (c .before .before .before .before .before .before .before .args .next)) (c .before .before .before .least-of .result) (choice (c .before .before)) (sym (c .before .is-taken .ensures) ∙ not-true _ (c .if2 .taken)))
+returns-2 c = sym (stays-untaken (c .before .before .before .before .before .before .before .before .before .args .q) (c .before .before .before .before .before .before .before .before .before .args .ended) (after (c .before .before .before .before .before .before .before .before .before)) (c .before .before .before .before .before .before .before .before .before .args .streams) ((c .before .before .before .before .before .before .before .before .before) .pre .few) (c .before .before .before .before .before .before .before .before .before .args .n) (c .before .before .before .before .before .before .before .before .before .args .b) (now (c .before .before .before .before .before .before .before .before .before .args .next)) (c .before .before .before .before .before .least-of .result) (choice (c .before .before)) (sym (c .before .is-taken .ensures) ∙ not-true _ (c .if2 .taken)))
 
--- src/lib.rt:295:15
+-- src/lib.rt:375:15
 is-live-requires : tie.Need-is-live-requires
 is-live-requires c κs = search needs
 
--- src/lib.rt:300:14
+-- src/lib.rt:380:9
+place-in-requires : tie.Need-place-in-requires
+place-in-requires c κs = search needs
+
+-- src/lib.rt:381:14
 mul-at : tie.Need-mul-at
-mul-at c = omega (arith, below (c .before .before .before))
+mul-at c = omega (arith, below (c))
 
--- src/lib.rt:300:14
+-- src/lib.rt:381:14
 element-copy-out-at : tie.Need-element-copy-out-at
-element-copy-out-at c = below (c .before .before .before)
+element-copy-out-at c = below (c)
 
--- src/lib.rt:301:8
+-- src/lib.rt:382:8
 mul-if3 : tie.Need-mul-if3
-mul-if3 c = omega (arith, below (c .before .before .before .before))
+mul-if3 c = omega (arith, below (c .before))
 
--- src/lib.rt:301:8
+-- src/lib.rt:382:8
 element-copy-out-if3 : tie.Need-element-copy-out-if3
-element-copy-out-if3 c = below (c .before .before .before .before)
+element-copy-out-if3 c = below (c .before)
 
--- src/lib.rt:302:9
+-- src/lib.rt:383:9
 returns-3 : tie.Need-returns-3
-returns-3 c = decided-ends (c .before .before .before .before .before .before .before .before .before .before .before .args .q) (c .before .before .before .before .before .before .before .before .before .before .before .args .ended) (sc (c .before .before .before .before .before .before .before .before .before .before .before)) (now (c .before .before .before .before .before .before .before .before .before .before .before .args .next)) (now (c .before .before .before .before .before .before .before .before .before .before .before .args .from)) (now (c .before .before .before .before .before .before .before .before .before .before .before .args .to)) (c .before .before .before .before .before .before .before .before .before .before .before .args .streams) ((c .before .before .before .before .before .before .before .before .before .before .before) .pre .few) (c .before .before .before .before .before .before .before .before .before .before .before .args .n) (c .before .before .before .before .before .before .before .before .before .before .before .args .b) (c .before .before .before .before .before .before .before .least-of .result) (choice (c .before .before .before .before .before .before)) (c .before .before .before .is-live .result) (c .before .before .before .is-live .ensures) (sym (c .before .before .before .before .before .is-taken .ensures) ∙ not-false _ (c .before .before .before .before .if2 .left)) (c .if3 .taken)
+returns-3 c = decided-ends (c .before .before .before .before .before .before .before .before .before .before .before .before .before .before .args .q) (c .before .before .before .before .before .before .before .before .before .before .before .before .before .before .args .ended) (sc (c .before .before .before .before .before .before .before .before .before .before .before .before .before .before)) (now (c .before .before .before .before .before .before .before .before .before .before .before .before .before .before .args .next)) (now (c .before .before .before .before .before .before .before .before .before .before .before .before .before .before .args .from)) (now (c .before .before .before .before .before .before .before .before .before .before .before .before .before .before .args .to)) (c .before .before .before .before .before .before .before .before .before .before .before .before .before .before .args .streams) ((c .before .before .before .before .before .before .before .before .before .before .before .before .before .before) .pre .few) (c .before .before .before .before .before .before .before .before .before .before .before .before .before .before .args .n) (c .before .before .before .before .before .before .before .before .before .before .before .before .before .before .args .b) (c .before .before .before .before .before .before .before .before .before .before .least-of .result) (choice (c .before .before .before .before .before .before .before)) (c .before .before .before .before .is-live .result) (c .before .before .before .before .is-live .ensures) (sym (c .before .before .before .before .before .before .is-taken .ensures) ∙ not-false _ (c .before .before .before .before .before .if2 .left)) (c .before .before .before .place-in .result) (c .before .before .before .place-in .ensures) (c .if3 .taken)
 
--- src/lib.rt:304:17
+-- src/lib.rt:385:17
 mul-first : tie.Need-mul-first
-mul-first c = omega (arith, below (c .before .before .before .before .before .before))
+mul-first c = omega (arith, below (c .before .before .before))
 
--- src/lib.rt:304:17
+-- src/lib.rt:385:17
 element-copy-out-first : tie.Need-element-copy-out-first
-element-copy-out-first c = below (c .before .before .before .before .before .before)
+element-copy-out-first c = below (c .before .before .before)
 
--- src/lib.rt:305:5
+-- src/lib.rt:386:5
 follow-requires : tie.Need-follow-requires
-follow-requires c κs = let p = (c .before .before .before .before .before .before .before .before .before .before .before .before) .pre in let k = c .before .before .before .before .before .before .before .before .least-of .result .at in (p .low k (choice (c .before .before .before .before .before .before .before) .inside), omega (arith, p .high k (choice (c .before .before .before .before .before .before .before) .inside), c .before .if3 .left), p .starts, p .stops)
+follow-requires c κs = let p = (c .before .before .before .before .before .before .before .before .before .before .before .before .before .before .before) .pre in let k = c .before .before .before .before .place-in .result in (p .low k (inside (c .before .before .before .before)), omega (arith, p .high k (inside (c .before .before .before .before)), c .before .if3 .left), p .starts, p .stops)
 
--- src/lib.rt:269:1
+-- src/lib.rt:349:1
 returns-4 : tie.Need-returns-4
-returns-4 c = decided-follows (c .before .before .before .before .before .before .before .before .before .before .before .before .before .args .q) (c .before .before .before .before .before .before .before .before .before .before .before .before .before .args .ended) (sc (c .before .before .before .before .before .before .before .before .before .before .before .before .before)) (now (c .before .before .before .before .before .before .before .before .before .before .before .before .before .args .next)) (now (c .before .before .before .before .before .before .before .before .before .before .before .before .before .args .from)) (now (c .before .before .before .before .before .before .before .before .before .before .before .before .before .args .to)) (c .before .before .before .before .before .before .before .before .before .before .before .before .before .args .streams) ((c .before .before .before .before .before .before .before .before .before .before .before .before .before) .pre .few) (c .before .before .before .before .before .before .before .before .before .before .before .before .before .args .n) (c .before .before .before .before .before .before .before .before .before .before .before .before .before .args .b) (c .before .before .before .before .before .before .before .before .before .least-of .result) (choice (c .before .before .before .before .before .before .before .before)) (c .before .before .before .before .before .is-live .result) (c .before .before .before .before .before .is-live .ensures) (sym (c .before .before .before .before .before .before .before .is-taken .ensures) ∙ not-false _ (c .before .before .before .before .before .before .if2 .left)) (c .follow .result) (c .before .before .if3 .left) (c .follow .ensures)
+returns-4 c = decided-follows (c .before .before .before .before .before .before .before .before .before .before .before .before .before .before .before .before .args .q) (c .before .before .before .before .before .before .before .before .before .before .before .before .before .before .before .before .args .ended) (sc (c .before .before .before .before .before .before .before .before .before .before .before .before .before .before .before .before)) (now (c .before .before .before .before .before .before .before .before .before .before .before .before .before .before .before .before .args .next)) (now (c .before .before .before .before .before .before .before .before .before .before .before .before .before .before .before .before .args .from)) (now (c .before .before .before .before .before .before .before .before .before .before .before .before .before .before .before .before .args .to)) (c .before .before .before .before .before .before .before .before .before .before .before .before .before .before .before .before .args .streams) ((c .before .before .before .before .before .before .before .before .before .before .before .before .before .before .before .before) .pre .few) (c .before .before .before .before .before .before .before .before .before .before .before .before .before .before .before .before .args .n) (c .before .before .before .before .before .before .before .before .before .before .before .before .before .before .before .before .args .b) (c .before .before .before .before .before .before .before .before .before .before .before .before .least-of .result) (choice (c .before .before .before .before .before .before .before .before .before)) (c .before .before .before .before .before .before .is-live .result) (c .before .before .before .before .before .before .is-live .ensures) (sym (c .before .before .before .before .before .before .before .before .is-taken .ensures) ∙ not-false _ (c .before .before .before .before .before .before .before .if2 .left)) (c .before .before .before .before .before .place-in .result) (c .before .before .before .before .before .place-in .ensures) (c .follow .result) (c .before .before .if3 .left) (c .follow .ensures)
 
 pub decide-spec : {M : Type 1} → statement M
 decide-spec =
@@ -106,6 +116,7 @@ decide-spec =
     is-taken-requires
     returns-2
     is-live-requires
+    place-in-requires
     mul-at
     element-copy-out-at
     mul-if3

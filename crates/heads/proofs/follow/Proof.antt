@@ -19,7 +19,7 @@ use Rattle.heads.proofs.read_row.Reads as read-row-reads
 
 -- the row at the place, and what is wrong with it
 abbrev rowHere : tie.Start → Record
-rowHere c = rowAt (cols (now (c .args .chrom)) (now (c .args .start)) (now (c .args .stop))) (c .args .first) (c .args .h .at) (c .args .at)
+rowHere c = rowAt (cols (now (c .args .chrom)) (now (c .args .start)) (now (c .args .stop))) (c .args .first) (c .args .h .stream .0) (c .args .at)
 
 abbrev wrongHere : tie.Start → Option End
 wrongHere c = fault (c .args .n) (some (bestRecord (c .args .h) .it)) (rowHere c)
@@ -27,27 +27,27 @@ wrongHere c = fault (c .args .n) (some (bestRecord (c .args .h) .it)) (rowHere c
 seen : (c : tie.After-check-behind) → c .check-behind .result ≡ checkOf (wrongHere (c .before .before .before .before .before))
 seen c = c .check-behind .ensures ∙ rw (c .before .read-row .ensures)
 
--- src/lib.rt:259:9
+-- src/lib.rt:305:9
 read-row-requires : tie.Need-read-row-requires
 read-row-requires c κs = search needs
 
--- src/lib.rt:260:9
+-- src/lib.rt:306:9
 check-behind-requires : tie.Need-check-behind-requires
 check-behind-requires c κs = search needs
 
--- src/lib.rt:262:22
+-- src/lib.rt:308:22
 enum-known-w : tie.Need-enum-known-w
 enum-known-w c = search needs
 
--- src/lib.rt:263:24
+-- src/lib.rt:309:24
 enum-told : tie.Need-enum-told
 enum-told c = search needs
 
--- src/lib.rt:255:1
+-- src/lib.rt:292:1
 returns : tie.Need-returns
 returns c = followed-wrong (c .before .before .before .before .before .before .before .before .args .t) (c .before .before .before .before .before .before .before .before .args .at + 1) (wrongHere (c .before .before .before .before .before .before .before .before)) (rowHere (c .before .before .before .before .before .before .before .before)) (seen (c .before .before .before)) (c .before .w .given .1)
 
--- src/lib.rt:255:1
+-- src/lib.rt:292:1
 returns-2 : tie.Need-returns-2
 returns-2 c = followed-fine (c .before .before .before .before .before .before .before .args .t) (c .before .before .before .before .before .before .before .args .at + 1) (wrongHere (c .before .before .before .before .before .before .before)) (rowHere (c .before .before .before .before .before .before .before)) (seen (c .before .before)) (c .enum-told .given .1) (c .before .before .before .read-row .ensures)
 

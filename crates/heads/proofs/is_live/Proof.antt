@@ -5,11 +5,11 @@ use Rattle.heads.proofs.is_live.Tie as tie
 use Rattle.heads.proofs.is_live.Reads as reads
 use Rattle.heads.proofs.is_live.Lts as lts
 
--- src/lib.rt:199:9
+-- src/lib.rt:220:9
 returns : tie.Need-returns
 returns c = rw (eq-eqb _ _ (c .before .before .if1 .taken))
 
--- src/lib.rt:194:1
+-- src/lib.rt:214:1
 returns-2 : tie.Need-returns-2
 returns-2 c = rw (ne-eqb _ _ (c .if1 .left))
 

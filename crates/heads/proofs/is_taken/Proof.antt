@@ -6,15 +6,15 @@ use Rattle.heads.proofs.is_taken.Tie as tie
 use Rattle.heads.proofs.is_taken.Reads as reads
 use Rattle.heads.proofs.is_taken.Lts as lts
 
--- src/lib.rt:185:9
+-- src/lib.rt:205:9
 returns : tie.Need-returns
 returns c = sym (lex-below _ _ _ (c .if1 .taken))
 
--- src/lib.rt:188:9
+-- src/lib.rt:208:9
 returns-2 : tie.Need-returns-2
 returns-2 c = sym (lex-above _ _ _ (c .if2 .taken))
 
--- src/lib.rt:180:1
+-- src/lib.rt:199:1
 returns-3 : tie.Need-returns-3
 returns-3 c = sym (lex-tie _ _ _ (c .before .before .before .before .before .if1 .left) (c .before .before .if2 .left))
 

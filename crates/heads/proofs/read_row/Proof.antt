@@ -6,43 +6,43 @@ use Rattle.heads.proofs.read_row.Reads as reads
 use Rattle.heads.proofs.read_row.Lts as lts
 use Rattle.heads.proofs.number.Reads as number-reads
 
--- src/lib.rt:246:16
+-- src/lib.rt:283:22
 mul-t6 : tie.Need-mul-t6
 mul-t6 c = search needs
 
--- src/lib.rt:246:16
+-- src/lib.rt:283:22
 shared-slice-read-t8 : tie.Need-shared-slice-read-t8
 shared-slice-read-t8 c = search needs
 
--- src/lib.rt:247:16
-mul-t9 : tie.Need-mul-t9
-mul-t9 c = search needs
+-- src/lib.rt:284:16
+mul-t10 : tie.Need-mul-t10
+mul-t10 c = search needs
 
--- src/lib.rt:247:16
-shared-slice-read-t11 : tie.Need-shared-slice-read-t11
-shared-slice-read-t11 c = search needs
+-- src/lib.rt:284:16
+shared-slice-read-t12 : tie.Need-shared-slice-read-t12
+shared-slice-read-t12 c = search needs
 
--- src/lib.rt:248:15
-mul-t12 : tie.Need-mul-t12
-mul-t12 c = search needs
+-- src/lib.rt:285:15
+mul-t13 : tie.Need-mul-t13
+mul-t13 c = search needs
 
--- src/lib.rt:248:15
-shared-slice-read-t14 : tie.Need-shared-slice-read-t14
-shared-slice-read-t14 c = search needs
+-- src/lib.rt:285:15
+shared-slice-read-t15 : tie.Need-shared-slice-read-t15
+shared-slice-read-t15 c = search needs
 
--- src/lib.rt:249:21
+-- src/lib.rt:286:21
 sub-number : tie.Need-sub-number
 sub-number c = search needs
 
--- src/lib.rt:249:14
+-- src/lib.rt:286:14
 number-requires : tie.Need-number-requires
 number-requires c κs = search needs
 
--- src/lib.rt:250:15
-add-t17 : tie.Need-add-t17
-add-t17 c = search needs
+-- src/lib.rt:287:15
+add-t18 : tie.Need-add-t18
+add-t18 c = search needs
 
--- src/lib.rt:241:1
+-- src/lib.rt:278:1
 returns : tie.Need-returns
 returns c = rw (c .number .ensures)
 
@@ -52,11 +52,11 @@ read-row-spec =
     (tie.spec
     mul-t6
     shared-slice-read-t8
-    mul-t9
-    shared-slice-read-t11
-    mul-t12
-    shared-slice-read-t14
+    mul-t10
+    shared-slice-read-t12
+    mul-t13
+    shared-slice-read-t15
     sub-number
     number-requires
-    add-t17
+    add-t18
     returns)

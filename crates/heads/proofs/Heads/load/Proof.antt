@@ -26,38 +26,38 @@ sc c = cols (now (c .args .chrom)) (now (c .args .start)) (now (c .args .stop))
 shaped : (c : tie.Start Inv-loop μ-loop) → Shaped (c .args .self)
 shaped c = search needs
 
--- src/lib.rt:376:9
+-- src/lib.rt:452:9
 loop-holds : tie.Need-loop-holds Inv-loop μ-loop
 loop-holds c = load-starts (sc (c .before .before .before)) (c .before .before .before .args .self) (shaped (c .before .before .before)) ((c .before .before .before) .pre) (c .before .before .before .args .n)
 
--- src/lib.rt:377:17
+-- src/lib.rt:453:17
 begin-requires : tie.Need-begin-requires Inv-loop μ-loop
 begin-requires c κs = let u = load-placed (sc (c .before .before .before .before .before)) (c .before .before .before .before .before .args .self) (shaped (c .before .before .before .before .before)) ((c .before .before .before .before .before) .pre) (c .before .before .before .before .before .args .n) (c .before .loop .h) (c .before .loop .k) (c .before .loop .inv) in (u .placed, omega (arith, u .streams, c .loop-test .taken))
 
--- src/lib.rt:380:30
+-- src/lib.rt:456:30
 enum-known-w : tie.Need-enum-known-w Inv-loop μ-loop
 enum-known-w c = search needs
 
--- src/lib.rt:381:21
+-- src/lib.rt:457:21
 returns : tie.Need-returns Inv-loop μ-loop
 returns c = record { is = load-stops (sc (c .before .before .before .before .before .before .before .before .before)) (c .before .before .before .before .before .before .before .before .before .args .self) (shaped (c .before .before .before .before .before .before .before .before .before)) ((c .before .before .before .before .before .before .before .before .before) .pre) (c .before .before .before .before .before .before .before .before .before .args .n) (c .before .before .before .before .before .loop .h) (c .before .before .before .before .before .loop .k) (c .before .before .before .before .before .loop .inv) (c .before .before .before .before .loop-test .taken) (c .before .before .before .begin .result) (c .before .before .before .begin .ensures) _ (c .before .w .given .1); placed = (c .before .before .before .before .before .before .before .before .before) .pre }
 
 enum-told : tie.Need-enum-told Inv-loop μ-loop
 enum-told c = search needs
 
--- src/lib.rt:389:13
+-- src/lib.rt:465:13
 add-k : tie.Need-add-k Inv-loop μ-loop
 add-k c = search needs
 
--- src/lib.rt:376:9
+-- src/lib.rt:452:9
 loop-less : tie.Need-loop-less Inv-loop μ-loop
 loop-less c = search needs
 
--- src/lib.rt:376:9
+-- src/lib.rt:452:9
 loop-again : tie.Need-loop-again Inv-loop μ-loop
 loop-again c = load-goes (sc (c .before .before .before .before .before .before .before .before .before)) (c .before .before .before .before .before .before .before .before .before .args .self) (shaped (c .before .before .before .before .before .before .before .before .before)) ((c .before .before .before .before .before .before .before .before .before) .pre) (c .before .before .before .before .before .before .before .before .before .args .n) (c .before .before .before .before .before .loop .h) (c .before .before .before .before .before .loop .k) (c .before .before .before .before .before .loop .inv) (c .before .before .before .before .loop-test .taken) (c .before .before .before .begin .result) (c .before .before .before .begin .ensures) (c .before .enum-told .given .1)
 
--- src/lib.rt:369:5
+-- src/lib.rt:445:5
 returns-2 : tie.Need-returns-2 Inv-loop μ-loop
 returns-2 c = record { is = load-ends (sc (c .before .before .before .before .before)) (c .before .before .before .before .before .args .self) (shaped (c .before .before .before .before .before)) ((c .before .before .before .before .before) .pre) (c .before .before .before .before .before .args .n) (c .before .loop .h) (c .before .loop .k) (c .before .loop .inv) (c .loop-test .left); placed = load-placed (sc (c .before .before .before .before .before)) (c .before .before .before .before .before .args .self) (shaped (c .before .before .before .before .before)) ((c .before .before .before .before .before) .pre) (c .before .before .before .before .before .args .n) (c .before .loop .h) (c .before .loop .k) (c .before .loop .inv) .placed }
 
