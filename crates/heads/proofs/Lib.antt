@@ -4,3 +4,4 @@ pub mod CheckLaws
 pub mod MoveLaws
 pub mod RestLaws
 pub mod LoadLaws
+pub mod TurnLaws

@@ -105,7 +105,7 @@ Shorter s h (move.Ends t) = total (restsOf s h) ≡ suc (total (restsOf s (endsA
 Shorter s h (move.Goes t x) = total (restsOf s h) ≡ suc (total (restsOf s (goesAt h (t .stream .0) x)))
 
 -- a live record lies on the base's chromosome
-taken-same : (b : Base) (a : Record) → live b a ≡ true → takenRecord b (takenOf b a) ≡ a
+pub taken-same : (b : Base) (a : Record) → live b a ≡ true → takenRecord b (takenOf b a) ≡ a
 taken-same b a e =
     let on : a .it .chrom .0 ≡ b .chrom .0 = eqb-true (a .it .chrom .0) (b .chrom .0) (and-left (eqb (a .it .chrom .0) (b .chrom .0)) _ e) in
     ap (λ (c : ℕ). recordIn (a .stream) (record { 0 = c }) (a .it .start) (a .it .stop) (a .row)) (sym on)
@@ -136,7 +136,7 @@ module _ (s : Cols) (h : Heads) (in8 : Shaped h) (few : h .streams ≤ 8) (N : �
           let is : x ≡ rowAt s (getD (h .from) k 0) k (getD (h .next) k 0) = cc in
           ap (λ (r : Record). nextRecord (record { 0 = k }) (nextOf r (getD (h .next) k 0 + 1)) ∷ rowsFrom s (getD (h .from) k 0) (getD (h .to) k 0) k (getD (h .next) k 0 + 1)) is ∙ whole
 
-  stands : (a : Record) (rest : List Record) (ts : List (List Record)) → pick ahead (restsOf s h) ≡ one a rest ts → Standing (q s h) (h .ended) (after s h) (h .streams) few a rest ts
+  pub stands : (a : Record) (rest : List Record) (ts : List (List Record)) → pick ahead (restsOf s h) ≡ one a rest ts → Standing (q s h) (h .ended) (after s h) (h .streams) few a rest ts
   stands a rest ts z = standing (q s h) (h .ended) (after s h) (h .streams) few a rest ts (ap (pick ahead) (rests-shown s h few) ∙ z)
 
   left-by : (a : Record) (rest : List Record) (ts : List (List Record)) → pick ahead (restsOf s h) ≡ one a rest ts → Left a rest ts

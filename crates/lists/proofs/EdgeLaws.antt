@@ -4,9 +4,11 @@ use mathlib.Core.Bool.{Bool, true, false, cond, not}
 use mathlib.Core.List.{List, [], _∷_, _++_, append-nil}
 use Prim.Native.Nat.{ℕ, zero, suc, _+_, _<_, _≤_}
 use native.Mathlib.Omega.{arith}
-use Rattle.lists.specs.Build.{build}
-use Rattle.lists.specs.Lists.{keep, filter, front, back, All, nil, cons}
-use Rattle.lists.proofs.ListLaws.{filter-append}
+use native.Mathlib.Nat.{zero-add}
+use Rattle.lists.specs.Build.{build, upto}
+use Rattle.lists.specs.Lists.{keep, filter, front, back, all, All, nil, cons}
+use Rattle.lists.proofs.BoolLaws.{off, clash}
+use Rattle.lists.proofs.ListLaws.{filter-append, all-true, all-pass}
 
 module _ {A : Type 0} where
   -- from one place on
@@ -61,3 +63,14 @@ module _ {A : Type 0} where
   pub front-stops : {p : A → Bool} {l : List A} (x : A) (m : List A) → All (λ y. p y ≡ true) l → p x ≡ false → front p (l ++ x ∷ m) ≡ l
   front-stops x m nil e = rw e
   front-stops x m (cons h k) e = rw (h, front-stops x m k e)
+
+-- a test of each number below n
+module _ (p : ℕ → Bool) (n : ℕ) where
+  pub upto-true : all p (upto n) ≡ true → (k : ℕ) → k < n → p k ≡ true
+  upto-true e k h = rw zero-add at (all-built {P = λ (j : ℕ). p j ≡ true} (λ j. j) n 0 k h (all-true p (upto n) e))
+
+  pub upto-pass : ((k : ℕ) → k < n → p k ≡ true) → all p (upto n) ≡ true
+  upto-pass h = all-pass (all-build (λ j. j) n 0 (λ j a b. h j (omega arith)))
+
+  pub upto-fail : (k : ℕ) → k < n → p k ≡ false → all p (upto n) ≡ false
+  upto-fail k h e = off (all p (upto n)) (λ t. clash (upto-true t k h) e)

@@ -4,3 +4,4 @@ pub mod ListLaws
 pub mod LexLaws
 pub mod BuildLaws
 pub mod EdgeLaws
+pub mod SaysLaws

@@ -6,8 +6,8 @@ use mathlib.Core.Option.{Option, some}
 use Prim.Native.Nat.{ℕ, suc, _≤_}
 use native.Mathlib.Omega.{arith}
 use lib.ListN.{length, getD}
-use Rattle.lists.proofs.BoolLaws.{and-false, and-true, and-drop, clash}
-use Rattle.lists.specs.Lists.{keep, filter, front, back, head?, first, All, nil, cons, Pairs, Sorted, next, Has, here, there}
+use Rattle.lists.proofs.BoolLaws.{and-false, and-true, and-drop, and-left, and-also, clash}
+use Rattle.lists.specs.Lists.{keep, filter, front, back, head?, first, all, All, nil, cons, Pairs, Sorted, next, Has, here, there}
 
 module _ {A : Type 0} where
   keep-append : (t : Bool) (x : A) (l m : List A) → keep t x (l ++ m) ≡ keep t x l ++ m
@@ -155,6 +155,15 @@ module _ {A : Type 0} where
   pub length-mono : {p q : A → Bool} {l : List A} → All (λ x. p x ≡ true → q x ≡ true) l → length (filter p l) ≤ length (filter q l)
   length-mono nil = omega arith
   length-mono {p} {q} (cons {x} {l} h k) = keep-mono (p x) (q x) x (filter p l) (filter q l) h (length-mono k)
+
+-- the test that every element passes, and the fact
+pub all-true : {A : Type 0} (p : A → Bool) (l : List A) → all p l ≡ true → All (λ x. p x ≡ true) l
+all-true p [] e = nil
+all-true p (x ∷ l) e = cons (and-left (p x) (all p l) e) (all-true p l (and-also (p x) (all p l) e))
+
+pub all-pass : {A : Type 0} {p : A → Bool} {l : List A} → All (λ x. p x ≡ true) l → all p l ≡ true
+all-pass nil = refl
+all-pass (cons h k) = rw (h, all-pass k)
 
 pub all-mapped : {A B : Type 0} {P : B → Type 0} (f : A → B) {l : List A} → All (λ x. P (f x)) l → All P (map f l)
 all-mapped f nil = nil

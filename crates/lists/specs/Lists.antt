@@ -49,6 +49,11 @@ module _ {A : Type 0} where
   any p [] = false
   any p (x ∷ l) = cond (p x) true (any p l)
 
+  -- every element passes
+  abbrev pub all : (A → Bool) → List A → Bool
+  all p [] = true
+  all p (x ∷ l) = p x && all p l
+
   -- how many elements there are in all
   abbrev pub total : List (List A) → ℕ
   total [] = 0

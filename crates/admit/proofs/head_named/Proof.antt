@@ -1,0 +1,17 @@
+-- `head_named` meets its contract.
+use mathlib.Core.Path.{_≡_}
+use borrow.Author.Needs.{needs}
+use Rattle.admit.proofs.head_named.Statement.{statement}
+use Rattle.admit.proofs.head_named.Tie as tie
+
+returns : tie.Need-returns
+returns c = search needs
+
+is-row-requires : tie.Need-is-row-requires
+is-row-requires c κs = search needs
+
+returns-2 : tie.Need-returns-2
+returns-2 c = rw (c .before .if1 .left) (c .is-row .ensures)
+
+pub head-named-spec : {M : Type 1} → statement M
+head-named-spec = tie.close (tie.spec returns is-row-requires returns-2)

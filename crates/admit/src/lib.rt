@@ -1,0 +1,241 @@
+// Whether a base is let in to a run that goes on: refusal 1, then 4, 6, 3, 5. There are tests only, and nothing is written.
+ghost use mathlib.Core.Path.{_≡_};
+ghost use mathlib.Core.Bool.{true, _&&_, _||_};
+ghost use mathlib.Core.List.{List};
+ghost use Prim.Native.Nat.{ℕ, _-_, _≤_};
+ghost use lib.Dec.{ltb};
+ghost use lib.ListN.{length};
+ghost use Rattle.rules.specs.Bases.{notBefore, inOrder, judge};
+ghost use Rattle.queue.specs.Ring.{cells, Sound};
+ghost use Rattle.admit.specs.Right.{measured, named, headsNamed, slotsNamed, right};
+ghost use Rattle.admit.specs.Gates.{lengthsOf, lastOf, judgedOf, gateOf};
+use queue::Ring;
+use rules::Base;
+use rules::Refusal;
+use rules::Stage;
+
+// The lengths of what is lent with a base: the streams' columns, the chromosomes' lengths, the queue's columns and the answer's.
+pub struct Lens {
+    pub chrom: usize,
+    pub start: usize,
+    pub stop: usize,
+    pub lengths: usize,
+    pub qstream: usize,
+    pub qrow: usize,
+    pub qstart: usize,
+    pub qstop: usize,
+    pub streams: usize,
+    pub rows: usize,
+}
+
+// Whether a base is let in.
+pub enum Gate {
+    Open,
+    Shut(Refusal),
+}
+
+// A place as a number of rows, and a number as a place.
+fn number(x: usize) -> u64
+    ensures { λ r. ⌜ r ≡ x ⌝ }
+{
+    x as u64
+}
+
+fn place_in(x: u64) -> usize
+    ensures { λ r. ⌜ r ≡ x ⌝ }
+{
+    x as usize
+}
+
+// Whether each size is kept to: the paper's, and those of the columns to one another and to the ring.
+fn is_sized(streams: usize, chroms: usize, ring: Ring, l: Lens) -> bool
+    ensures { λ r. ⌜ r ≡ measured l streams chroms ring ⌝ }
+{
+    let room = ring.room;
+    let few = (1 <= streams) & (streams <= 8);
+    let listed = (1 <= chroms) & (chroms <= 256);
+    let roomy = (1 <= room) & (room <= 65536);
+    let columns = (l.start == l.chrom) & ((l.stop == l.chrom) & (l.lengths == chroms));
+    let named = (l.qstream == room) & (l.qrow == room);
+    let spans = (l.qstart == room) & (l.qstop == room);
+    let answer = (room <= l.streams) & (l.rows == l.streams);
+    let inside = (ring.head < room) & (ring.len <= room);
+    (few & (listed & roomy)) & (columns & ((named & spans) & (answer & inside)))
+}
+
+// Whether a row is one of a stream whose rows stand from one place up to another.
+fn is_row(from: usize, to: usize, row: u64) -> bool
+    ensures { λ r. ⌜ r ≡ ltb row (to - from) ⌝ }
+{
+    if to < from {
+        return false;
+    }
+    row < number(to - from)
+}
+
+// Whether a head names a row of its stream, or its stream has ended.
+fn head_named(ended: bool, from: usize, to: usize, row: u64) -> bool
+    ensures { λ r. ⌜ r ≡ ended || ltb row (to - from) ⌝ }
+{
+    if ended {
+        return true;
+    }
+    is_row(from, to, row)
+}
+
+// Whether each head of a stream that has not ended names a row of its stream.
+fn heads_named<'a>(
+    streams: usize,
+    ended: &'a [bool; 8],
+    row: &'a [u64; 8],
+    from: &'a [usize; 8],
+    to: &'a [usize; 8],
+) -> bool
+    requires { ⌜ streams ≤ 8 ⌝ }
+    ensures { λ r. ⌜ r ≡ headsNamed streams (now (ended .entry)) (now (row .entry)) (now (from .entry)) (now (to .entry)) ⌝ }
+{
+    let mut k: usize = 0;
+    while k < streams {
+        if !head_named(ended[k], from[k], to[k], row[k]) {
+            return false;
+        }
+        k += 1;
+    }
+    true
+}
+
+// Whether there is such a stream, and such a row of it.
+fn slot_named<'a>(
+    streams: usize,
+    from: &'a [usize; 8],
+    to: &'a [usize; 8],
+    stream: u64,
+    row: u64,
+) -> bool
+    requires { ⌜ streams ≤ 8 ⌝ }
+    ensures { λ r. ⌜ r ≡ named streams (now (from .entry)) (now (to .entry)) stream row ⌝ }
+{
+    if number(streams) <= stream {
+        return false;
+    }
+    let k = place_in(stream);
+    is_row(from[k], to[k], row)
+}
+
+// Whether each record that waits names a stream and a row of it.
+fn slots_named<'a>(
+    ring: Ring,
+    streams: usize,
+    from: &'a [usize; 8],
+    to: &'a [usize; 8],
+    qstream: &[u64],
+    qrow: &[u64],
+) -> bool
+    requires { ⌜ Sound ring × (length (now qstream) ≡ ring .room) × (length (now qrow) ≡ ring .room) × (streams ≤ 8) ⌝ }
+    ensures { λ r. ⌜ ((starts stops : List ℕ) → r ≡ slotsNamed streams (now (from .entry)) (now (to .entry)) ring (cells (now (qstream .entry)) (now (qrow .entry)) starts stops)) ⌝ }
+{
+    let head = ring.head;
+    let len = ring.len;
+    let room = ring.room;
+    let mut k: usize = 0;
+    while k < len {
+        let at = queue::place_of(head, room, k);
+        if !slot_named(streams, from, to, qstream[at], qrow[at]) {
+            return false;
+        }
+        k += 1;
+    }
+    true
+}
+
+// Whether a base is not before another, by chromosome, start and stop.
+fn is_ordered(p: Base, b: Base) -> bool
+    ensures { λ r. ⌜ r ≡ notBefore p b ⌝ }
+{
+    let last = p.chrom;
+    let here = b.chrom;
+    if last.0 < here.0 {
+        return true;
+    }
+    if here.0 < last.0 {
+        return false;
+    }
+    if p.start < b.start {
+        return true;
+    }
+    if b.start < p.start {
+        return false;
+    }
+    p.stop <= b.stop
+}
+
+// Whether a base is in order behind the last accepted one.
+fn follows(stage: Stage, b: Base) -> bool
+    ensures { λ r. ⌜ r ≡ inOrder (lastOf stage) b ⌝ }
+{
+    match stage {
+        Stage::Fresh => true,
+        Stage::After(p) => is_ordered(p, b),
+        Stage::Over(_) => true,
+    }
+}
+
+// 4, 6, 3, 5, in this order.
+fn judge(lengths: &[u64], stage: Stage, b: Base) -> Gate
+    ensures { λ r. ⌜ r ≡ judgedOf (judge (lengthsOf (now (lengths .entry))) (lastOf stage) b) ⌝ }
+{
+    let c = b.chrom;
+    if number(lengths.len()) <= c.0 {
+        return Gate::Shut(Refusal::Unlisted);
+    }
+    if b.stop < b.start {
+        return Gate::Shut(Refusal::Reversed);
+    }
+    let at = place_in(c.0);
+    if lengths[at] < b.stop {
+        return Gate::Shut(Refusal::Beyond);
+    }
+    if !follows(stage, b) {
+        return Gate::Shut(Refusal::Unordered);
+    }
+    Gate::Open
+}
+
+// Whether a base is let in to a run that goes on, of the lengths of what is lent: 1, then 4, 6, 3, 5. Whatever stands in the queue's other two
+// columns, the starts and the stops.
+pub fn admit<'a>(
+    streams: usize,
+    chroms: usize,
+    ring: Ring,
+    stage: Stage,
+    ended: &'a [bool; 8],
+    row: &'a [u64; 8],
+    next: &'a [usize; 8],
+    from: &'a [usize; 8],
+    to: &'a [usize; 8],
+    l: Lens,
+    lengths: &[u64],
+    qstream: &[u64],
+    qrow: &[u64],
+    b: Base,
+) -> Gate
+    requires { ⌜ (length (now qstream) ≡ l .qstream) × (length (now qrow) ≡ l .qrow) ⌝ }
+    ensures { λ r. ⌜ ((starts stops : List ℕ) → r ≡ gateOf
+        (right l streams chroms ring (now (ended .entry)) (now (row .entry)) (now (next .entry)) (now (from .entry)) (now (to .entry))
+        (cells (now (qstream .entry)) (now (qrow .entry)) starts stops))
+        (judge (lengthsOf (now (lengths .entry))) (lastOf stage) b)) ⌝ }
+{
+    if !is_sized(streams, chroms, ring, l) {
+        return Gate::Shut(Refusal::Sizes);
+    }
+    if !heads::is_placed(streams, next, from, to, l.chrom, l.start, l.stop) {
+        return Gate::Shut(Refusal::Sizes);
+    }
+    if !heads_named(streams, ended, row, from, to) {
+        return Gate::Shut(Refusal::Sizes);
+    }
+    if !slots_named(ring, streams, from, to, qstream, qrow) {
+        return Gate::Shut(Refusal::Sizes);
+    }
+    judge(lengths, stage, b)
+}
