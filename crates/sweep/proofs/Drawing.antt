@@ -13,7 +13,8 @@ use Rattle.rules.specs.declared.Base.{Base}
 use Rattle.rules.specs.declared.Chrom.{Chrom}
 use Rattle.rules.specs.declared.End.{End}
 use Rattle.rules.specs.declared.End.the-variants.{NoRoom}
-use Rattle.rules.specs.declared.Stage.the-variants.{After}
+use Rattle.rules.specs.declared.Stage.{Stage}
+use Rattle.rules.specs.declared.Stage.the-variants.{Fresh, After, Over}
 use Rattle.rules.specs.declared.Answer.the-variants as answer
 use Rattle.rules.specs.Rows.{Record}
 use Rattle.rules.specs.Merge.{pick}
@@ -43,8 +44,8 @@ use Rattle.offers.proofs.OfferLaws.{offer-by}
 use Rattle.sweep.specs.declared.Run.{Run}
 use Rattle.sweep.specs.declared.Given.{Given}
 use Rattle.sweep.specs.View.{headsOf, runWith, runOf, overOf}
-use Rattle.sweep.specs.Settle.{turnOf, afterTurns, drawnTo, runBy, Kept, Lent, lent, Settles, pullOf, Drawable, slotOf, KeptAs, FullAs, ReportsAs, DrawsAs}
-use Rattle.sweep.proofs.ViewLaws.{over-view}
+use Rattle.sweep.specs.Settle.{turnOf, afterTurns, drawnTo, endedBy, runBy, Going, Kept, Lent, lent, Settles, pullOf, Drawable, slotOf, KeptAs, FullAs, ReportsAs, DrawsAs}
+use Rattle.sweep.proofs.ViewLaws.{over-held}
 
 -- ---- the heads
 
@@ -66,6 +67,12 @@ kept-trans h k = record { stream = k .stream ∙ h .stream; row = k .row ∙ h .
 
 fair-kept : {q w : Ring} {c d : Cells} → Fair q c → Fair w d → w .room ≡ q .room → Kept c d
 fair-kept f g e = record { stream = g .streams ∙ e ∙ sym (f .streams); row = g .rows ∙ e ∙ sym (f .rows); start = g .starts ∙ e ∙ sym (f .starts); stop = g .stops ∙ e ∙ sym (f .stops) }
+
+-- a run that goes on is ended
+ended-going : (t : Stage) (r : Run) (e : End) → Going t → endedBy t r e ≡ overOf r e
+ended-going Fresh r e g = refl
+ended-going (After p) r e g = refl
+ended-going (Over x) r e g = absurd g
 
 -- ---- the loop
 
@@ -156,12 +163,12 @@ module _ (s : Cols) (r : Run) (b : Base) (q : Ring) (l : Lent) where
     -- ---- the ways out
 
     -- the run ends by e
-    pub ends-so : (e : End) (c′ : Cells) (ss : List ℕ) (rs : List ℕ) → Kept (l .cells) c′ → from (headsOf r) (waiting q (l .cells)) ≡ ends e
+    pub ends-so : Going (r .stage) → (e : End) (c′ : Cells) (ss : List ℕ) (rs : List ℕ) → Kept (l .cells) c′ → from (headsOf r) (waiting q (l .cells)) ≡ ends e
         → (g : Given) → g ≡ record { run = overOf u e; answer = answer.Ended e } → ss ≡ l .streams → rs ≡ l .rows → DrawsAs s r b q l g (lent c′ ss rs)
-    ends-so e c′ ss rs k is g gs sss rss = rw (is, gs, sss, rss) (record {
+    ends-so z e c′ ss rs k is g gs sss rss = rw (is, gs, sss, rss) (record {
       answer = refl;
-      run = ap (runOf s c′) over-same ∙ over-view s (l .cells) c′ r e (omega (arith, d .turning .placed .few, d .ranged .2));
-      exact = over-same;
+      run = ap (runOf s c′) over-same ∙ over-held s (l .cells) c′ r e (omega (arith, d .turning .placed .few, d .ranged .2));
+      exact = over-same ∙ sym (ended-going (r .stage) r e z);
       room = ap (λ (x : Run). x .ring .room) over-same;
       kept = k;
       streams = refl;

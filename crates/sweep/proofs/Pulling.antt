@@ -76,14 +76,14 @@ module _ (s : Cols) (r : Run) (b : Base) (q : Ring) (l : Lent) (n : ℕ) where
 
       pub wrong-out : (e : End) → t ≡ move.Wrong e → (g : Given) → g ≡ record { run = overOf u e; answer = answer.Ended e } → DrawsAs s r b q l g m
       wrong-out e i g h =
-          ends-so s r b q l u w (m .cells) (k .drawing) e (m .cells) (m .streams) (m .rows) (k .drawing .kept)
+          ends-so s r b q l u w (m .cells) (k .drawing) (k .asked .going) e (m .cells) (m .streams) (m .rows) (k .drawing .kept)
           (sym (k .drawing .pulls) ∙ on-move s r b q l u w (m .cells) (k .drawing) t is-here ∙ ap (onMove s (headsOf u) (r .chroms) b NoRoom (q .room) (waiting w (m .cells))) i) g h (k .streams) (k .rows)
 
       -- a head was taken: a is the pull that goes on, where there is room
       full-out : (a : Taken) (ss : List (List Record)) → onMove s (headsOf u) (r .chroms) b NoRoom (q .room) (waiting w (m .cells)) t ≡ queued (r .chroms) b NoRoom (q .room) (waiting w (m .cells)) a ss
           → (c′ : Cells) → FullAs w (m .cells) a c′ → (g : Given) → g ≡ record { run = overOf u NoRoom; answer = answer.Ended NoRoom } → DrawsAs s r b q l g (lent c′ (m .streams) (m .rows))
       full-out a ss on c′ f g h = rw (f .same)
-          (ends-so s r b q l u w (m .cells) (k .drawing) NoRoom (m .cells) (m .streams) (m .rows) (k .drawing .kept)
+          (ends-so s r b q l u w (m .cells) (k .drawing) (k .asked .going) NoRoom (m .cells) (m .streams) (m .rows) (k .drawing .kept)
           (sym (k .drawing .pulls) ∙ on-move s r b q l u w (m .cells) (k .drawing) t is-here ∙ on ∙ queued-full s r b q l u w (m .cells) (k .drawing) a c′ f ss) g h (k .streams) (k .rows))
 
       -- ---- a head was taken, and its stream has ended

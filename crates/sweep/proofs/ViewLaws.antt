@@ -18,7 +18,7 @@ use Rattle.heads.specs.View.{Cols, behindAt, restAt, restsOf, freshOf, unlessEn
 use Rattle.queue.specs.Ring.{Cells, waiting}
 use Rattle.queue.proofs.Calls.{fresh-none}
 use Rattle.sweep.specs.declared.Run.{Run}
-use Rattle.sweep.specs.View.{headsOf, leftBy, runOf, eight, overOf}
+use Rattle.sweep.specs.View.{headsOf, leftBy, runOf, heldOf, eight, overOf}
 
 -- eight times the same
 eight-at : {A : Type 0} (x d : A) (k : ℕ) → k < 8 → getD (eight x) k d ≡ x
@@ -38,16 +38,23 @@ unfolding build
 map-build f zero i = refl
 map-build f (suc k) i = rw (map-build f k (suc i))
 
+rests-none : (s : Cols) (h : Heads) → map {B = List Record} (λ l. []) (restsOf s h) ≡ build (λ j. []) (h .streams) 0
+unfolding restsOf
+rests-none s h = map-build (restAt s h) (h .streams) 0
+
 left-none : (t : Stage) (s : Cols) (h : Heads) → map {B = List Record} (λ l. []) (leftBy t s h) ≡ build (λ j. []) (h .streams) 0
-unfolding restsOf freshOf
+unfolding freshOf
 left-none Fresh s h = map-build (behindAt s h) (h .streams) 0
-left-none (After p) s h = map-build (restAt s h) (h .streams) 0
-left-none (Over e) s h = map-build (restAt s h) (h .streams) 0
+left-none (After p) s h = rests-none s h
+left-none (Over e) s h = rests-none s h
 
 -- of an ended run nothing is left
-pub over-view : (s : Cols) (c c′ : Cells) (r : Run) (e : End) → r .streams ≤ 8 → runOf s c′ (overOf r e) ≡ over (runOf s c r) e
+over-rests : (s : Cols) (r : Run) (e : End) → r .streams ≤ 8 → restsOf s (headsOf (overOf r e)) ≡ build (λ j. []) (r .streams) 0
 unfolding restsOf
-over-view s c c′ r e few =
-    let left : restsOf s (headsOf (overOf r e)) ≡ map {B = List Record} (λ l. []) (leftBy (r .stage) s (headsOf r)) =
-    build-same (λ j. []) (restAt s (headsOf (overOf r e))) (r .streams) 0 (λ j a b. rw (eight-at true false j (omega arith))) ∙ sym (left-none (r .stage) s (headsOf r)) in
-    rw (left, fresh-none (r .ring .room) (r .ring .chrom) c′)
+over-rests s r e few = build-same (λ j. []) (restAt s (headsOf (overOf r e))) (r .streams) 0 (λ j a b. rw (eight-at true false j (omega arith)))
+
+pub over-view : (s : Cols) (c c′ : Cells) (r : Run) (e : End) → r .streams ≤ 8 → runOf s c′ (overOf r e) ≡ over (runOf s c r) e
+over-view s c c′ r e few = rw (over-rests s r e few, left-none (r .stage) s (headsOf r), fresh-none (r .ring .room) (r .ring .chrom) c′)
+
+pub over-held : (s : Cols) (c c′ : Cells) (r : Run) (e : End) → r .streams ≤ 8 → runOf s c′ (overOf r e) ≡ over (heldOf s c r) e
+over-held s c c′ r e few = rw (over-rests s r e few, rests-none s (headsOf r), fresh-none (r .ring .room) (r .ring .chrom) c′)

@@ -1,3 +1,4 @@
 -- What a run stands for, and what a call says.
 pub mod View
 pub mod Settle
+pub mod Give

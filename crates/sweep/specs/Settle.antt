@@ -9,7 +9,7 @@ use Rattle.rules.specs.declared.Base.{Base}
 use Rattle.rules.specs.declared.End.{End}
 use Rattle.rules.specs.declared.End.the-variants.{NoRoom}
 use Rattle.rules.specs.declared.Stage.{Stage}
-use Rattle.rules.specs.declared.Stage.the-variants.{After}
+use Rattle.rules.specs.declared.Stage.the-variants.{Fresh, After, Over}
 use Rattle.rules.specs.Rows.{Record}
 use Rattle.rules.specs.Merge.{pick}
 use Rattle.rules.specs.Streams.{ahead, next}
@@ -33,7 +33,7 @@ use Rattle.queue.specs.Deeds.{written, frontOf}
 use Rattle.offers.specs.Offers.{offerBy}
 use Rattle.sweep.specs.declared.Run.{Run}
 use Rattle.sweep.specs.declared.Given.{Given}
-use Rattle.sweep.specs.View.{headsOf, runWith, runOf, overOf}
+use Rattle.sweep.specs.View.{headsOf, runWith, runOf, heldOf, overOf}
 
 -- ---- the heads
 
@@ -52,11 +52,23 @@ drawnTo s n b h = afterTurns s n b (total (restsOf s h)) h
 
 -- ---- the run
 
+-- the run after an end; "an ended run first (its old answer again)": that is given back as it came
+abbrev pub endedBy : Stage → Run → End → Run
+endedBy Fresh r e = overOf r e
+endedBy (After p) r e = overOf r e
+endedBy (Over x) r e = r
+
 -- the run after a reply, but for where its records wait: `h` are the heads after the pull
 abbrev pub runBy : Reply → Base → Heads → Run → Ring → Run
 runBy (found l o) b h r q = runWith r h q (After b)
 runBy (refused x) b h r q = r
-runBy (ended e) b h r q = overOf r e
+runBy (ended e) b h r q = endedBy (r .stage) r e
+
+-- the run goes on
+abbrev pub Going : Stage → Type 0
+Going Fresh = Unit {0}
+Going (After p) = Unit {0}
+Going (Over e) = ⊥
 
 -- ---- what is lent
 
@@ -95,6 +107,7 @@ pullOf s r b q c = pull ahead (next (r .chroms)) NoRoom (taken b) (live b) (q .r
 
 -- what a pull asks: the streams are placed, the queue was cleared for the base, there are answer rows for all that can wait
 pub record Drawable (s : Cols) (r : Run) (b : Base) (q : Ring) (l : Lent) : Type 0 where
+  pub going : Going (r .stage)
   pub placed : Placed s (r .streams) (r .next) (r .from) (r .to)
   pub fair : Fair q (l .cells)
   pub chrom : q .chrom ≡ b .chrom
@@ -136,4 +149,4 @@ pub record ReportsAs (r : Run) (q : Ring) (c : Cells) (h : Best) (b : Base) (ss 
 -- what a pull comes to
 abbrev pub DrawsAs : Cols → Run → Base → Ring → Lent → Given → Lent → Type 0
 DrawsAs s r b q l g l′ =
-    Settles s b (drawnTo s (r .chroms) b (headsOf r)) r (afterPull (length (l .rows)) (runOf s (l .cells) r) b (pullOf s r b q (l .cells))) l g l′
+    Settles s b (drawnTo s (r .chroms) b (headsOf r)) r (afterPull (length (l .rows)) (heldOf s (l .cells) r) b (pullOf s r b q (l .cells))) l g l′

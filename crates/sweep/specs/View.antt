@@ -32,6 +32,10 @@ leftBy (Over e) s h = restsOf s h
 abbrev pub runOf : Cols → Cells → Run → rules.Run
 runOf s c r = record { left = leftBy (r .stage) s (headsOf r); queue = waiting (r .ring) c; stage = r .stage }
 
+-- the same, where the heads are loaded
+abbrev pub heldOf : Cols → Cells → Run → rules.Run
+heldOf s c r = record { left = restsOf s (headsOf r); queue = waiting (r .ring) c; stage = r .stage }
+
 -- eight times the same
 abbrev pub eight : {A : Type 0} → A → List A
 eight x = x ∷ x ∷ x ∷ x ∷ x ∷ x ∷ x ∷ x ∷ []

@@ -1,5 +1,9 @@
 // The sweep: one base in, its records and an offer out.
+use admit::Gate;
+use admit::Lens;
 use heads::Best;
+use heads::Check;
+use heads::Heads;
 use heads::Move;
 use heads::Taken;
 use queue::Pushed;
@@ -16,6 +20,8 @@ ghost use Rattle.heads.specs.View.{cols};
 ghost use Rattle.queue.specs.Ring.{cells, Fair};
 ghost use Rattle.sweep.specs.View.{headsOf, runWith, overOf};
 ghost use Rattle.queue.specs.Deeds.{Scannable};
+ghost use Rattle.heads.specs.Move.{Placed};
+ghost use Rattle.sweep.specs.Give.{Gives, Gated, Underway, Answerable, AnswersAs, OpensAs};
 ghost use Rattle.sweep.specs.Settle.{lent, Keeps, ReportsAs, Drawable, DrawsAs};
 
 // A run: of each stream its head's chromosome, start, stop and row, whether it has ended, the place of the row behind its head in the
@@ -39,6 +45,12 @@ pub struct Run {
 pub struct Given {
     pub run: Run,
     pub answer: Answer,
+}
+
+// A run with its heads loaded, and what was wrong, if anything.
+struct Opened {
+    run: Run,
+    wrong: Check,
 }
 
 // A number of rows or streams as a number, and a number as a place.
@@ -241,6 +253,227 @@ impl Run {
                     u.next[k] = x.next;
                 }
             }
+        }
+    }
+
+    // The heads that the run carries.
+    fn heads(self) -> Heads
+        ensures { λ h. ⌜ h ≡ headsOf self ⌝ }
+    {
+        let chrom = self.chrom;
+        let start = self.start;
+        let stop = self.stop;
+        let row = self.row;
+        let ended = self.ended;
+        let next = self.next;
+        let from = self.from;
+        let to = self.to;
+        Heads {
+            chrom: chrom,
+            start: start,
+            stop: stop,
+            row: row,
+            ended: ended,
+            next: next,
+            from: from,
+            to: to,
+            streams: self.streams,
+        }
+    }
+
+    // The run with other heads.
+    fn with_heads(self, h: Heads) -> Run
+        ensures { λ r. ⌜ r ≡ runWith self h (self .ring) (self .stage) ⌝ }
+    {
+        let chrom = h.chrom;
+        let start = h.start;
+        let stop = h.stop;
+        let row = h.row;
+        let ended = h.ended;
+        let next = h.next;
+        let from = h.from;
+        let to = h.to;
+        let ring = self.ring;
+        let stage = self.stage;
+        Run {
+            chrom: chrom,
+            start: start,
+            stop: stop,
+            row: row,
+            ended: ended,
+            next: next,
+            from: from,
+            to: to,
+            streams: h.streams,
+            chroms: self.chroms,
+            ring: ring,
+            stage: stage,
+        }
+    }
+
+    // The run with the first head of each stream; at the first fault the heads are as they were.
+    fn load(self, chrom: &[u64], start: &[u64], stop: &[u64]) -> Opened
+        requires { ⌜ Placed (cols (now chrom) (now start) (now stop)) (self .streams) (self .next) (self .from) (self .to) ⌝ }
+        ensures { λ o. ⌜ OpensAs (cols (now (chrom .entry)) (now (start .entry)) (now (stop .entry))) self o ⌝ }
+    {
+        let h = self.heads();
+        let n = number(self.chroms);
+        let l = h.load(n, chrom, start, stop);
+        let g = l.heads;
+        let wrong = l.wrong;
+        let run = self.with_heads(g);
+        Opened {
+            run: run,
+            wrong: wrong,
+        }
+    }
+
+    // What is not live is cleared, and the pull begins.
+    fn answer(
+        self,
+        b: Base,
+        chrom: &[u64],
+        start: &[u64],
+        stop: &[u64],
+        qstream: &mut [u64],
+        qrow: &mut [u64],
+        qstart: &mut [u64],
+        qstop: &mut [u64],
+        streams: &mut [u64],
+        rows: &mut [u64],
+    ) -> Given
+        requires { ⌜ Answerable (cols (now chrom) (now start) (now stop)) self (lent (cells (now qstream) (now qrow) (now qstart) (now qstop)) (now streams) (now rows)) ⌝ }
+        ensures { λ g. ⌜ AnswersAs (cols (now (chrom .entry)) (now (start .entry)) (now (stop .entry))) self b
+            (lent (cells (now (qstream .entry)) (now (qrow .entry)) (now (qstart .entry)) (now (qstop .entry))) (now (streams .entry)) (now (rows .entry))) g
+            (lent (cells (now (qstream .exit)) (now (qrow .exit)) (now (qstart .exit)) (now (qstop .exit))) (now (streams .exit)) (now (rows .exit))) ⌝ }
+    {
+        let ring = self.ring;
+        let q = ring.clear(qstream, qrow, qstart, qstop, b);
+        self.draw(q, b, chrom, start, stop, qstream, qrow, qstart, qstop, streams, rows)
+    }
+
+    // The first base: the heads are loaded, and the first fault ends the run.
+    fn first(
+        self,
+        gate: Gate,
+        b: Base,
+        chrom: &[u64],
+        start: &[u64],
+        stop: &[u64],
+        lengths: &[u64],
+        qstream: &mut [u64],
+        qrow: &mut [u64],
+        qstart: &mut [u64],
+        qstop: &mut [u64],
+        streams: &mut [u64],
+        rows: &mut [u64],
+    ) -> Given
+        requires { ⌜ (self .stage ≡ Stage.Fresh) × Gated (cols (now chrom) (now start) (now stop)) (now lengths) self b (lent (cells (now qstream) (now qrow) (now qstart) (now qstop)) (now streams) (now rows)) gate ⌝ }
+        ensures { λ g. ⌜ Gives (cols (now (chrom .entry)) (now (start .entry)) (now (stop .entry))) (now (lengths .entry)) self b
+            (lent (cells (now (qstream .entry)) (now (qrow .entry)) (now (qstart .entry)) (now (qstop .entry))) (now (streams .entry)) (now (rows .entry))) g
+            (lent (cells (now (qstream .exit)) (now (qrow .exit)) (now (qstart .exit)) (now (qstop .exit))) (now (streams .exit)) (now (rows .exit))) ⌝ }
+    {
+        if let Gate::Shut(x) = gate {
+            return Given {
+                run: self,
+                answer: Answer::Refused(x),
+            };
+        }
+        let o = self.load(chrom, start, stop);
+        let w = o.wrong;
+        let u = o.run;
+        match w {
+            Check::Wrong(e) => self.over(e),
+            Check::Fine => u.answer(b, chrom, start, stop, qstream, qrow, qstart, qstop, streams, rows),
+        }
+    }
+
+    // A base after the first.
+    fn further(
+        self,
+        gate: Gate,
+        b: Base,
+        chrom: &[u64],
+        start: &[u64],
+        stop: &[u64],
+        lengths: &[u64],
+        qstream: &mut [u64],
+        qrow: &mut [u64],
+        qstart: &mut [u64],
+        qstop: &mut [u64],
+        streams: &mut [u64],
+        rows: &mut [u64],
+    ) -> Given
+        requires { ⌜ Underway self × Gated (cols (now chrom) (now start) (now stop)) (now lengths) self b (lent (cells (now qstream) (now qrow) (now qstart) (now qstop)) (now streams) (now rows)) gate ⌝ }
+        ensures { λ g. ⌜ Gives (cols (now (chrom .entry)) (now (start .entry)) (now (stop .entry))) (now (lengths .entry)) self b
+            (lent (cells (now (qstream .entry)) (now (qrow .entry)) (now (qstart .entry)) (now (qstop .entry))) (now (streams .entry)) (now (rows .entry))) g
+            (lent (cells (now (qstream .exit)) (now (qrow .exit)) (now (qstart .exit)) (now (qstop .exit))) (now (streams .exit)) (now (rows .exit))) ⌝ }
+    {
+        if let Gate::Shut(x) = gate {
+            return Given {
+                run: self,
+                answer: Answer::Refused(x),
+            };
+        }
+        self.answer(b, chrom, start, stop, qstream, qrow, qstart, qstop, streams, rows)
+    }
+
+    // Gives a base to the run. Lent are the streams' columns, the chromosomes' lengths, the queue's memory and the answer columns.
+    pub fn give(
+        self,
+        b: Base,
+        chrom: &[u64],
+        start: &[u64],
+        stop: &[u64],
+        lengths: &[u64],
+        qstream: &mut [u64],
+        qrow: &mut [u64],
+        qstart: &mut [u64],
+        qstop: &mut [u64],
+        streams: &mut [u64],
+        rows: &mut [u64],
+    ) -> Given
+        ensures { λ g. ⌜ Gives (cols (now (chrom .entry)) (now (start .entry)) (now (stop .entry))) (now (lengths .entry)) self b
+            (lent (cells (now (qstream .entry)) (now (qrow .entry)) (now (qstart .entry)) (now (qstop .entry))) (now (streams .entry)) (now (rows .entry))) g
+            (lent (cells (now (qstream .exit)) (now (qrow .exit)) (now (qstart .exit)) (now (qstop .exit))) (now (streams .exit)) (now (rows .exit))) ⌝ }
+    {
+        let stage = self.stage;
+        let ring = self.ring;
+        let l = Lens {
+            chrom: chrom.len(),
+            start: start.len(),
+            stop: stop.len(),
+            lengths: lengths.len(),
+            qstream: qstream.len(),
+            qrow: qrow.len(),
+            qstart: qstart.len(),
+            qstop: qstop.len(),
+            streams: streams.len(),
+            rows: rows.len(),
+        };
+        let gate = admit::admit(
+            self.streams,
+            self.chroms,
+            ring,
+            stage,
+            &self.ended,
+            &self.row,
+            &self.next,
+            &self.from,
+            &self.to,
+            l,
+            lengths,
+            qstream,
+            qrow,
+            b,
+        );
+        match stage {
+            Stage::Fresh => self.first(gate, b, chrom, start, stop, lengths, qstream, qrow, qstart, qstop, streams, rows),
+            Stage::After(p) => self.further(gate, b, chrom, start, stop, lengths, qstream, qrow, qstart, qstop, streams, rows),
+            Stage::Over(e) => Given {
+                run: self,
+                answer: Answer::Ended(e),
+            },
         }
     }
 }
