@@ -11,59 +11,59 @@ use Rattle.io.proofs.write_all.Reads as write-all-reads
 use Rattle.tests_heads.proofs.print_end.Reads as print-end-reads
 use Rattle.tests_heads.proofs.take_all.Reads as take-all-reads
 
--- src/main.rt:104:9
+-- src/main.rt:159:9
 is-placed-requires : tie.Need-is-placed-requires
 is-placed-requires c κs = search needs
 
--- src/main.rt:105:38
+-- src/main.rt:168:38
 slice-aggregate-write-all : tie.Need-slice-aggregate-write-all
 slice-aggregate-write-all c = search needs
 
--- src/main.rt:105:9
+-- src/main.rt:168:9
 write-all-requires : tie.Need-write-all-requires
 write-all-requires c κs = search needs
 
--- src/main.rt:106:9
+-- src/main.rt:169:9
 returns : tie.Need-returns
 returns c = search needs
 
--- src/main.rt:108:9
+-- src/main.rt:171:9
 load-requires : tie.Need-load-requires
 load-requires c κs = c .before .is-placed .ensures .yes (not-false _ (c .if1 .left))
 
--- src/main.rt:111:22
+-- src/main.rt:174:22
 enum-known-w : tie.Need-enum-known-w
 enum-known-w c = search needs
 
--- src/main.rt:111:28
+-- src/main.rt:174:28
 print-end-requires : tie.Need-print-end-requires
 print-end-requires c κs = search needs
 
--- src/main.rt:113:17
+-- src/main.rt:176:17
 enum-told : tie.Need-enum-told
 enum-told c = search needs
 
--- src/main.rt:114:17
+-- src/main.rt:177:17
 take-all-requires : tie.Need-take-all-requires
 take-all-requires c κs = c .before .before .before .load .ensures .placed
 
--- src/main.rt:115:42
+-- src/main.rt:178:42
 slice-aggregate-write-all-2 : tie.Need-slice-aggregate-write-all-2
 slice-aggregate-write-all-2 c = search needs
 
--- src/main.rt:115:13
+-- src/main.rt:178:13
 write-all-requires-2 : tie.Need-write-all-requires-2
 write-all-requires-2 c κs = search needs
 
--- src/main.rt:116:13
+-- src/main.rt:179:13
 take-all-requires-2 : tie.Need-take-all-requires-2
 take-all-requires-2 c κs = search needs
 
--- src/main.rt:92:1
+-- src/main.rt:138:1
 returns-2 : tie.Need-returns-2
 returns-2 c = search needs
 
--- src/main.rt:92:1
+-- src/main.rt:138:1
 returns-3 : tie.Need-returns-3
 returns-3 c = search needs
 
