@@ -1,5 +1,5 @@
 -- The loop of a pull: what is left and what waits give the same pull as at its start, and each way out settles the call.
-use mathlib.Core.Path.{_≡_, refl, sym, ap, _∙_}
+use mathlib.Core.Path.{_≡_, refl, sym, ap, subst, _∙_}
 use mathlib.Core.Bool.{Bool, true, false, cond}
 use mathlib.Core.List.{List, [], _∷_, _++_, append-nil}
 use Prim.Native.Nat.{ℕ, zero, suc, _≤_, _<_}
@@ -62,14 +62,14 @@ turns-next s n b h g e f = ap (λ (k : ℕ). afterTurns s n b k h) f ∙ ap (aft
 
 -- ---- the queue
 
-kept-trans : {a c d : Cells} → Kept a c → Kept c d → Kept a d
+pub kept-trans : {a c d : Cells} → Kept a c → Kept c d → Kept a d
 kept-trans h k = record { stream = k .stream ∙ h .stream; row = k .row ∙ h .row; start = k .start ∙ h .start; stop = k .stop ∙ h .stop }
 
-fair-kept : {q w : Ring} {c d : Cells} → Fair q c → Fair w d → w .room ≡ q .room → Kept c d
+pub fair-kept : {q w : Ring} {c d : Cells} → Fair q c → Fair w d → w .room ≡ q .room → Kept c d
 fair-kept f g e = record { stream = g .streams ∙ e ∙ sym (f .streams); row = g .rows ∙ e ∙ sym (f .rows); start = g .starts ∙ e ∙ sym (f .starts); stop = g .stops ∙ e ∙ sym (f .stops) }
 
 -- a run that goes on is ended
-ended-going : (t : Stage) (r : Run) (e : End) → Going t → endedBy t r e ≡ overOf r e
+pub ended-going : (t : Stage) (r : Run) (e : End) → Going t → endedBy t r e ≡ overOf r e
 ended-going Fresh r e g = refl
 ended-going (After p) r e g = refl
 ended-going (Over x) r e g = absurd g
@@ -170,6 +170,7 @@ module _ (s : Cols) (r : Run) (b : Base) (q : Ring) (l : Lent) where
       run = ap (runOf s c′) over-same ∙ over-held s (l .cells) c′ r e (omega (arith, d .turning .placed .few, d .ranged .2));
       exact = over-same ∙ sym (ended-going (r .stage) r e z);
       room = ap (λ (x : Run). x .ring .room) over-same;
+      fair = λ z. absurd z;
       kept = k;
       streams = refl;
       rows = refl;
@@ -185,6 +186,7 @@ module _ (s : Cols) (r : Run) (b : Base) (q : Ring) (l : Lent) where
       run = ap (runOf s c) (k .run);
       exact = k .run ∙ rw (d .same) (ap (λ (h : Heads). runWith r h w (After b)) (sym last-heads)) ∙ ap (λ (y : Run). runWith r (drawnTo s (r .chroms) b (headsOf r)) (y .ring) (After b)) (sym (k .run));
       room = ap (λ (y : Run). y .ring .room) (k .run) ∙ d .room ∙ z .room;
+      fair = λ y. subst (λ (x : Run). Fair (x .ring) c) (sym (k .run)) (d .fair);
       kept = d .kept;
       streams = k .streams;
       rows = k .rows;

@@ -4,3 +4,4 @@ pub mod Keeping
 pub mod Reporting
 pub mod Drawing
 pub mod Pulling
+pub mod Giving

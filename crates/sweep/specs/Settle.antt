@@ -70,6 +70,12 @@ Going Fresh = Unit {0}
 Going (After p) = Unit {0}
 Going (Over e) = ⊥
 
+-- a base that was answered
+abbrev pub Found : Reply → Type 0
+Found (found l o) = Unit {0}
+Found (refused x) = ⊥
+Found (ended e) = ⊥
+
 -- ---- what is lent
 
 -- the columns of a queue keep their lengths
@@ -95,6 +101,8 @@ pub record Settles (s : Cols) (b : Base) (h : Heads) (r : Run) (t : rules.Given)
   pub run : runOf s (l′ .cells) (g .run) ≡ t .run
   pub exact : g .run ≡ runBy (t .reply) b h r (g .run .ring)
   pub room : g .run .ring .room ≡ r .ring .room
+  -- where the base was answered the queue lies within its memory
+  pub fair : Found (t .reply) → Fair (g .run .ring) (l′ .cells)
   pub kept : Kept (l .cells) (l′ .cells)
   pub streams : l′ .streams ≡ column (λ a. a .stream .0) (t .reply) (l .streams)
   pub rows : l′ .rows ≡ column (λ a. a .row) (t .reply) (l .rows)

@@ -1,0 +1,326 @@
+-- The parts of a call that gives a base, and the whole.
+use mathlib.Core.Path.{_≡_, refl, sym, ap, subst, _∙_}
+use mathlib.Core.Bool.{Bool, true, false, cond}
+use mathlib.Core.Option.{Option, none, some}
+use mathlib.Core.List.{List, [], _∷_, map}
+use Prim.Native.Nat.{ℕ, _≤_}
+use native.Mathlib.Omega.{arith}
+use lib.Dec.{ltb}
+use lib.ListN.{length, length-map}
+use Rattle.lists.specs.Lists.{filter, All}
+use Rattle.rules.specs.declared.Base.{Base}
+use Rattle.rules.specs.declared.End.{End}
+use Rattle.rules.specs.declared.End.the-variants.{NoRoom, NoRows}
+use Rattle.rules.specs.declared.Refusal.{Refusal}
+use Rattle.rules.specs.declared.Refusal.the-variants.{Sizes}
+use Rattle.rules.specs.declared.Stage.{Stage}
+use Rattle.rules.specs.declared.Stage.the-variants.{Fresh, After, Over}
+use Rattle.rules.specs.declared.Answer.the-variants as answer
+use Rattle.rules.specs.Rows.{Record}
+use Rattle.rules.specs.Streams.{ahead, next}
+use Rattle.rules.specs.Overlap.{taken, live, overlaps}
+use Rattle.rules.specs.Offer.{offer}
+use Rattle.rules.specs.Pull.{Pull, paused, ends, pull}
+use Rattle.rules.specs.Bases.{judge}
+use Rattle.rules.specs.Call.{Reply, found, refused, ended, refuse, end, loading, coming, afterPull, pulling, accept, judged, byStage, give}
+use Rattle.rules.specs.Call as rules
+use Rattle.heads.specs.declared.Heads.{Heads}
+use Rattle.heads.specs.declared.Check.{Check}
+use Rattle.heads.specs.declared.Check.the-variants as check
+use Rattle.heads.specs.declared.Loaded.{Loaded}
+use Rattle.heads.specs.View.{Cols, restsOf, freshOf}
+use Rattle.heads.specs.Move.{Placed, Shaped}
+use Rattle.heads.specs.Load.{loadTo, loadedOf, unlessWrongIn, LoadsAs}
+use Rattle.heads.proofs.LoadLaws.{Upto, upto, load-rests}
+use Rattle.queue.specs.declared.Ring.{Ring}
+use Rattle.queue.specs.Ring.{Cells, Fair, waiting}
+use Rattle.queue.specs.Deeds.{Clears}
+use Rattle.queue.proofs.Calls.{cleared-live}
+use Rattle.admit.specs.declared.Gate.{Gate}
+use Rattle.admit.specs.declared.Gate.the-variants.{Open, Shut}
+use Rattle.admit.specs.Gates.{known, lengthsOf, lastOf, judgedOf, gateOf}
+use Rattle.admit.specs.Fits.{Told, Fits}
+use Rattle.admit.proofs.RightLaws.{right-fits}
+use Rattle.sweep.specs.declared.Run.{Run}
+use Rattle.sweep.specs.declared.Given.{Given}
+use Rattle.sweep.specs.declared.Opened.{Opened}
+use Rattle.sweep.specs.View.{headsOf, runWith, leftBy, runOf, heldOf, overOf}
+use Rattle.sweep.specs.Settle.{drawnTo, endedBy, runBy, Going, Kept, Lent, lent, Settles, Drawable, DrawsAs}
+use Rattle.sweep.specs.Give.{lensOf, rightOf, givenOf, openedBy, Gives, Gated, Underway, Answerable, AnswersAs, OpensAs}
+use Rattle.sweep.proofs.ViewLaws.{over-view}
+use Rattle.sweep.proofs.Drawing.{kept-trans, fair-kept, ended-going}
+
+-- ---- loading
+
+pub opens : (s : Cols) (r : Run) (n : ℕ) (h : Heads) (l : Loaded) (u : Run) → h ≡ headsOf r → n ≡ r .chroms → LoadsAs s n h l → u ≡ runWith r (l .heads) (r .ring) (r .stage) → OpensAs s r (record { run = u; wrong = l .wrong })
+opens s r n h l u e f k i = record { same = i ∙ ap (λ (x : Run). runWith r (headsOf x) (r .ring) (r .stage)) (sym i); loads = ap (λ (x : Run). record { heads = headsOf x; wrong = l .wrong }) i ∙ rw (e, f) at (k .is) }
+
+pub placed-by : (s : Cols) (r : Run) (h : Heads) → h ≡ headsOf r → Placed s (r .streams) (r .next) (r .from) (r .to) → Placed s (h .streams) (h .next) (h .from) (h .to)
+placed-by s r h e p = subst (λ (x : Heads). Placed s (x .streams) (x .next) (x .from) (x .to)) (sym e) p
+
+-- ---- a run that goes on
+
+pub fresh-going : (r : Run) → r .stage ≡ Fresh → Going (r .stage)
+fresh-going r i = subst Going (sym i) tt
+
+pub under-going : (r : Run) → Underway r → Going (r .stage)
+under-going r w = subst Going (sym (w .is)) tt
+
+-- ---- clearing, and then a pull
+
+module _ (s : Cols) (r : Run) (b : Base) (l : Lent) (a : Answerable s r l) (q : Ring) (c : Cells) (k : Clears (r .ring) (l .cells) b q c) where
+  pub drawable : Drawable s r b q (lent c (l .streams) (l .rows))
+  drawable = record {
+    going = a .going;
+    placed = a .placed;
+    fair = k .fair;
+    chrom = k .chrom;
+    cleared = cleared-live b k;
+    room = k .room;
+    streams = omega (arith, a .streams, k .room);
+    rows = omega (arith, a .rows, k .room);
+  }
+
+  -- what waits is what was live
+  pulls-so : afterPull (length (l .rows)) (heldOf s c r) b (pull ahead (next (r .chroms)) NoRoom (taken b) (live b) (q .room) (restsOf s (headsOf r)) (waiting q c)) ≡ pulling (r .chroms) (r .ring .room) (length (l .rows)) (heldOf s (l .cells) r) b
+  pulls-so = rw (k .left, k .room) (go (pull ahead (next (r .chroms)) NoRoom (taken b) (live b) (r .ring .room) (restsOf s (headsOf r)) (filter (live b) (waiting (r .ring) (l .cells)))))
+    where
+      go : (p : Pull Record End) → afterPull (length (l .rows)) (heldOf s c r) b p ≡ afterPull (length (l .rows)) (heldOf s (l .cells) r) b p
+      go (ends e) = refl
+      go (paused ss w) = refl
+
+  pub answers-so : (g : Given) (l′ : Lent) → DrawsAs s r b q (lent c (l .streams) (l .rows)) g l′ → AnswersAs s r b l g l′
+  answers-so g l′ d =
+      let z : Settles s b (drawnTo s (r .chroms) b (headsOf r)) r (pulling (r .chroms) (r .ring .room) (length (l .rows)) (heldOf s (l .cells) r) b) (lent c (l .streams) (l .rows)) g l′ = rw pulls-so at d in
+      record { answer = z .answer; run = z .run; exact = z .exact; room = z .room; fair = z .fair; kept = kept-trans (fair-kept (a .fair) (k .fair) (k .room)) (z .kept); streams = z .streams; rows = z .rows }
+
+-- ---- what a pull answers
+
+-- an accepted base is not refused
+abbrev pub Pulled : Reply → Type 0
+Pulled (found hits o) = Unit {0}
+Pulled (refused x) = ⊥
+Pulled (ended e) = Unit {0}
+
+unrefused : (t : Reply) (x : Refusal) → Pulled t → t ≡ refused x → ⊥
+unrefused t x p e = subst Pulled e p
+
+pulled : (rows : ℕ) (r : rules.Run) (b : Base) (p : Pull Record End) → Pulled (afterPull rows r b p .reply)
+pulled rows r b (ends e) = tt
+pulled rows r b (paused ss w) = go (ltb rows (length (filter (overlaps b) w)))
+  where
+    go : (u : Bool) → Pulled ((cond u (end r NoRows) (record { run = record { left = ss; queue = w; stage = After b }; reply = found (filter (overlaps b) w) (offer (coming ss w) b) })) .reply)
+    go true = tt
+    go false = tt
+
+pulling-pulled : (n Q rows : ℕ) (r : rules.Run) (b : Base) → Pulled (pulling n Q rows r b .reply)
+pulling-pulled n Q rows r b = pulled rows r b (pull ahead (next n) NoRoom (taken b) (live b) Q (r .left) (filter (live b) (r .queue)))
+
+-- what loading says of the first fault
+loads-wrong : (o : Option End) (to same h : Heads) (w : Check) → _≡_ {A = Loaded} (record { heads = h; wrong = w }) (unlessWrongIn o to same) → (e : End) → w ≡ check.Wrong e → o ≡ some e
+loads-wrong none to same h w k e i = let z : check.Wrong e ≡ check.Fine = sym i ∙ ap (λ (x : Loaded). x .wrong) k in let y : _≡_ {A = ℕ} 0 1 = cc in absurd (omega arith)
+loads-wrong (some f) to same h w k e i = let z : check.Wrong e ≡ check.Wrong f = sym i ∙ ap (λ (x : Loaded). x .wrong) k in let y : e ≡ f = cc in rw y
+
+loads-fine : (o : Option End) (to same h : Heads) (w : Check) → _≡_ {A = Loaded} (record { heads = h; wrong = w }) (unlessWrongIn o to same) → w ≡ check.Fine → (o ≡ none) × (h ≡ to)
+loads-fine none to same h w k i = (refl, ap (λ (x : Loaded). x .heads) k)
+loads-fine (some f) to same h w k i = let z : check.Fine ≡ check.Wrong f = sym i ∙ ap (λ (x : Loaded). x .wrong) k in let y : _≡_ {A = ℕ} 0 1 = cc in absurd (omega arith)
+
+-- ---- the tests before the pull
+
+gate-open : (u : Bool) (o : Option Refusal) → Open ≡ gateOf u o → (u ≡ true) × (o ≡ none)
+gate-open false o e = let z : _≡_ {A = ℕ} 0 1 = cc in absurd (omega arith)
+gate-open true none e = (refl, refl)
+gate-open true (some x) e = let z : _≡_ {A = ℕ} 0 1 = cc in absurd (omega arith)
+
+module _ (s : Cols) (lengths : List ℕ) (r : Run) (b : Base) (l : Lent) where
+  abbrev pub R : rules.Run
+  R = runOf s (l .cells) r
+
+  -- the number of chromosomes by the rules
+  abbrev N : ℕ
+  N = length (lengthsOf lengths)
+
+  -- what a base comes to, by how the run stands
+  given-fresh : r .stage ≡ Fresh → givenOf s lengths r b l ≡ cond (rightOf s lengths r l) (judged N (r .ring .room) (length (l .rows)) R b (loading N (R .left)) (judge (lengthsOf lengths) none b)) (refuse R Sizes)
+  unfolding give
+  given-fresh i = ap (byStage (lengthsOf lengths) (r .ring .room) (record { right = rightOf s lengths r l; rows = length (l .rows) }) R b) i
+
+  given-after : (p : Base) → r .stage ≡ After p → givenOf s lengths r b l ≡ cond (rightOf s lengths r l) (judged N (r .ring .room) (length (l .rows)) R b none (judge (lengthsOf lengths) (some p) b)) (refuse R Sizes)
+  unfolding give
+  given-after p i = ap (byStage (lengthsOf lengths) (r .ring .room) (record { right = rightOf s lengths r l; rows = length (l .rows) }) R b) i
+
+  given-over : (e : End) → r .stage ≡ Over e → givenOf s lengths r b l ≡ record { run = R; reply = ended e }
+  unfolding give
+  given-over e i = ap (byStage (lengthsOf lengths) (r .ring .room) (record { right = rightOf s lengths r l; rows = length (l .rows) }) R b) i
+
+  -- the gate, by how the run stands
+  gate-at : (g : Gate) (t : Stage) → r .stage ≡ t → Gated s lengths r b l g → g ≡ gateOf (rightOf s lengths r l) (judge (lengthsOf lengths) (lastOf t) b)
+  gate-at g t i e = e ∙ ap (λ (x : Stage). gateOf (rightOf s lengths r l) (judge (lengthsOf lengths) (lastOf x) b)) i
+
+  -- a base that is refused
+  shut-given : (u : Bool) (o : Option Refusal) (x : Refusal) → Shut x ≡ gateOf u o → (w : Option End) → cond u (judged N (r .ring .room) (length (l .rows)) R b w o) (refuse R Sizes) ≡ refuse R x
+  shut-given false o x e w = let i : x ≡ Sizes = cc in rw i
+  shut-given true none x e w = let z : _≡_ {A = ℕ} 0 1 = cc in absurd (omega arith)
+  shut-given true (some y) x e w = let i : x ≡ y = cc in rw i
+
+  shut-so : (t : Stage) → r .stage ≡ t → Going t → (x : Refusal) → Gated s lengths r b l (Shut x) → givenOf s lengths r b l ≡ refuse R x
+  shut-so Fresh i g x e = given-fresh i ∙ shut-given (rightOf s lengths r l) (judge (lengthsOf lengths) none b) x (gate-at (Shut x) Fresh i e) (loading N (R .left))
+  shut-so (After p) i g x e = given-after p i ∙ shut-given (rightOf s lengths r l) (judge (lengthsOf lengths) (some p) b) x (gate-at (Shut x) (After p) i e) none
+  shut-so (Over y) i g x e = absurd g
+
+  -- "run unchanged", and all that was lent
+  pub refused-so : Going (r .stage) → (k : Gate) → Gated s lengths r b l k → (x : Refusal) → k ≡ Shut x → Gives s lengths r b l (record { run = r; answer = answer.Refused x }) l
+  refused-so g k e x i =
+      let is : givenOf s lengths r b l ≡ refuse R x = shut-so (r .stage) refl g x (rw i at e) in
+      record {
+        settles = rw is (record { answer = refl; run = refl; exact = refl; room = refl; fair = λ z. absurd z; kept = record { stream = refl; row = refl; start = refl; stop = refl }; streams = refl; rows = refl });
+        still = λ y z. refl;
+        again = λ y z. refl;
+      }
+
+  -- "an ended run first (its old answer again)"
+  pub over-so : (e : End) → r .stage ≡ Over e → Gives s lengths r b l (record { run = r; answer = answer.Ended e }) l
+  over-so e i = record {
+    settles = rw (given-over e i) (record { answer = refl; run = refl; exact = ap (λ (t : Stage). endedBy t r e) (sym i); room = refl; fair = λ z. absurd z; kept = record { stream = refl; row = refl; start = refl; stop = refl }; streams = refl; rows = refl });
+    still = λ y z. refl;
+    again = λ y z. refl;
+  }
+
+  -- ---- an accepted base
+
+  module _ (k : Gate) (gated : Gated s lengths r b l k) (opened : k ≡ Open) where
+    opens-at : (t : Stage) → r .stage ≡ t → (rightOf s lengths r l ≡ true) × (judge (lengthsOf lengths) (lastOf t) b ≡ none)
+    opens-at t i = gate-open (rightOf s lengths r l) (judge (lengthsOf lengths) (lastOf t) b) (sym opened ∙ gate-at k t i gated)
+
+    pub fits : Fits (lensOf s lengths l) (r .streams) (r .chroms) (r .ring) (r .ended) (r .row) (r .next) (r .from) (r .to) (l .cells)
+    fits =
+        right-fits (lensOf s lengths l) (r .streams) (r .chroms) (r .ring) (r .ended) (r .row) (r .next) (r .from) (r .to) (l .cells)
+        (record { streams = refl; rows = refl; starts = refl; stops = refl }) (opens-at (r .stage) refl .0)
+
+    chroms-so : N ≡ r .chroms
+    chroms-so = length-map lengths known ∙ fits .lengths
+
+    -- a run whose heads are loaded, with the same rows and the same room
+    pub answerable : (u : Run) → Going (u .stage) → Placed s (u .streams) (u .next) (u .from) (u .to) → u .ring ≡ r .ring → Answerable s u l
+    answerable u g p i = record { going = g; placed = p; fair = rw i (fits .fair); streams = rw i (fits .answer); rows = rw i (omega (arith, fits .answer, fits .paired)) }
+
+    -- t is what the base comes to, from the heads h
+    settled : (t : rules.Given) → givenOf s lengths r b l ≡ t → Pulled (t .reply) → Going (r .stage) → (h : Heads) → openedBy (r .stage) s (headsOf r) ≡ h
+        → (g : Given) (l′ : Lent) → Settles s b (drawnTo s (r .chroms) b h) r t l g l′ → Gives s lengths r b l g l′
+    settled t is p z h o g l′ a = record {
+      settles =
+          subst (λ (x : Heads). Settles s b (drawnTo s (r .chroms) b x) r (givenOf s lengths r b l) l g l′) (sym o)
+          (subst (λ (x : rules.Given). Settles s b (drawnTo s (r .chroms) b h) r x l g l′) (sym is) a);
+      still = λ x e. absurd (unrefused (t .reply) x p (ap (λ (y : rules.Given). y .reply) (sym is) ∙ e));
+      again = λ e i. absurd (subst Going i z);
+    }
+
+    -- a base after the first
+    pub further-so : Underway r → (g : Given) (l′ : Lent) → AnswersAs s r b l g l′ → Gives s lengths r b l g l′
+    further-so w g l′ a =
+        let held : heldOf s (l .cells) r ≡ R = ap (λ (t : Stage). record { left = leftBy t s (headsOf r); queue = waiting (r .ring) (l .cells); stage = r .stage }) (sym (w .is)) in
+        let at : (rightOf s lengths r l ≡ true) × (judge (lengthsOf lengths) (some (w .last)) b ≡ none) = opens-at (After (w .last)) (w .is) in
+        let is : givenOf s lengths r b l ≡ pulling (r .chroms) (r .ring .room) (length (l .rows)) (heldOf s (l .cells) r) b =
+        given-after (w .last) (w .is) ∙ rw (at .0, at .1, chroms-so) (ap (λ (x : rules.Run). pulling (r .chroms) (r .ring .room) (length (l .rows)) x b) (sym held)) in
+        settled (pulling (r .chroms) (r .ring .room) (length (l .rows)) (heldOf s (l .cells) r) b) is (pulling-pulled (r .chroms) (r .ring .room) (length (l .rows)) (heldOf s (l .cells) r) b) (under-going r w) (headsOf r)
+        (ap (λ (t : Stage). openedBy t s (headsOf r)) (w .is)) g l′ a
+
+    -- ---- the first base
+
+    module _ (fresh : r .stage ≡ Fresh) (shaped : Shaped (headsOf r)) where
+      goes : Going (r .stage)
+      goes = fresh-going r fresh
+
+      -- what is left is all rows
+      lefts : R .left ≡ freshOf s (headsOf r)
+      lefts = ap (λ (t : Stage). leftBy t s (headsOf r)) fresh
+
+      first-given : givenOf s lengths r b l ≡ accept (r .chroms) (r .ring .room) (length (l .rows)) R b (loading (r .chroms) (freshOf s (headsOf r)))
+      first-given =
+          let at : (rightOf s lengths r l ≡ true) × (judge (lengthsOf lengths) none b ≡ none) = opens-at Fresh fresh in
+          given-fresh fresh ∙ rw (at .0, at .1, chroms-so, lefts)
+
+      -- the first fault ends the run
+      pub first-wrong : (o : Opened) → OpensAs s r o → (e : End) → o .wrong ≡ check.Wrong e → (g : Given) → g ≡ record { run = overOf r e; answer = answer.Ended e } → Gives s lengths r b l g l
+      first-wrong o k e i g gs =
+          let is : givenOf s lengths r b l ≡ end R e = first-given ∙ ap (accept (r .chroms) (r .ring .room) (length (l .rows)) R b) (loads-wrong (loading (r .chroms) (freshOf s (headsOf r))) (loadTo s (headsOf r) (r .streams)) (headsOf r) (headsOf (o .run)) (o .wrong) (k .loads) e i) in
+          settled (end R e) is tt goes (openedBy (r .stage) s (headsOf r)) refl g l
+          (rw gs (record {
+            answer = refl;
+            run = over-view s (l .cells) (l .cells) r e (fits .few);
+            exact = sym (ended-going (r .stage) r e goes);
+            room = refl;
+            fair = λ z. absurd z;
+            kept = record { stream = refl; row = refl; start = refl; stop = refl };
+            streams = refl;
+            rows = refl;
+          }))
+
+      -- the run u with its heads loaded goes on
+      module _ (o : Opened) (w : OpensAs s r o) (fine : o .wrong ≡ check.Fine) where
+        abbrev u : Run
+        u = o .run
+
+        loads : (loading (r .chroms) (freshOf s (headsOf r)) ≡ none) × (headsOf u ≡ loadTo s (headsOf r) (r .streams))
+        loads = loads-fine (loading (r .chroms) (freshOf s (headsOf r))) (loadTo s (headsOf r) (r .streams)) (headsOf r) (headsOf u) (o .wrong) (w .loads) fine
+
+        placed-first : Placed s (r .streams) (r .next) (r .from) (r .to)
+        placed-first = fits .placed
+
+        up : Upto s (headsOf r) (headsOf u) (r .streams)
+        up = subst (λ (h : Heads). Upto s (headsOf r) h (r .streams)) (sym (loads .1)) (upto s (headsOf r) shaped placed-first (r .streams) (omega arith))
+
+        ring-same : u .ring ≡ r .ring
+        ring-same = ap (λ (x : Run). x .ring) (w .same)
+
+        stage-same : u .stage ≡ r .stage
+        stage-same = ap (λ (x : Run). x .stage) (w .same)
+
+        chroms-same : u .chroms ≡ r .chroms
+        chroms-same = ap (λ (x : Run). x .chroms) (w .same)
+
+        pub first-answerable : Answerable s u l
+        first-answerable = answerable u (subst Going (sym stage-same) goes) (up .placed) ring-same
+
+        held-first : heldOf s (l .cells) u ≡ R
+        held-first =
+            ap (λ (x : List (List Record)). record { left = x; queue = waiting (u .ring) (l .cells); stage = u .stage }) (ap (restsOf s) (loads .1) ∙ load-rests s (headsOf r) shaped placed-first ∙ sym lefts)
+            ∙ ap (λ (q : Ring). record { left = R .left; queue = waiting q (l .cells); stage = u .stage }) ring-same
+            ∙ ap (λ (t : Stage). record { left = R .left; queue = waiting (r .ring) (l .cells); stage = t }) stage-same
+
+        over-same : (e : End) → overOf u e ≡ overOf r e
+        over-same e =
+            let a : u .from ≡ r .from = up .from in
+            let c : u .to ≡ r .to = up .to in
+            let d : u .streams ≡ r .streams = up .streams in
+            let f : u .chroms ≡ r .chroms = chroms-same in
+            let h : u .ring ≡ r .ring = ring-same in
+            let i : u .ring .room ≡ r .ring .room = ap (λ (q : Ring). q .room) h in
+            let j : u .ring .chrom ≡ r .ring .chrom = ap (λ (q : Ring). q .chrom) h in
+            cc
+
+        run-same : (t : Reply) → Pulled t → (h : Heads) (q : Ring) → runBy t b h u q ≡ runBy t b h r q
+        run-same (found hits y) p h q = ap (λ (n : ℕ). record { chrom = h .chrom; start = h .start; stop = h .stop; row = h .row; ended = h .ended; next = h .next; from = h .from; to = h .to; streams = h .streams; chroms = n; ring = q; stage = After b }) chroms-same
+        run-same (refused x) p h q = absurd p
+        run-same (ended e) p h q = ended-going (u .stage) u e (subst Going (sym stage-same) goes) ∙ over-same e ∙ sym (ended-going (r .stage) r e goes)
+
+        pub first-so : (g : Given) (l′ : Lent) → AnswersAs s u b l g l′ → Gives s lengths r b l g l′
+        first-so g l′ a =
+            let t : rules.Given = pulling (u .chroms) (u .ring .room) (length (l .rows)) (heldOf s (l .cells) u) b in
+            let is : givenOf s lengths r b l ≡ t =
+            first-given ∙ ap (accept (r .chroms) (r .ring .room) (length (l .rows)) R b) (loads .0)
+            ∙ ap (λ (x : rules.Run). pulling (r .chroms) (r .ring .room) (length (l .rows)) x b) (sym held-first)
+            ∙ ap (λ (n : ℕ). pulling n (r .ring .room) (length (l .rows)) (heldOf s (l .cells) u) b) (sym chroms-same)
+            ∙ ap (λ (q : Ring). pulling (u .chroms) (q .room) (length (l .rows)) (heldOf s (l .cells) u) b) (sym ring-same) in
+            let p : Pulled (t .reply) = pulling-pulled (u .chroms) (u .ring .room) (length (l .rows)) (heldOf s (l .cells) u) b in
+            settled t is p goes (headsOf u) (ap (λ (x : Stage). openedBy x s (headsOf r)) fresh ∙ sym (loads .1)) g l′
+            (record {
+              answer = a .answer;
+              run = a .run;
+              exact = a .exact ∙ run-same (t .reply) p (drawnTo s (u .chroms) b (headsOf u)) (g .run .ring) ∙ ap (λ (n : ℕ). runBy (t .reply) b (drawnTo s n b (headsOf u)) r (g .run .ring)) chroms-same;
+              room = a .room ∙ ap (λ (q : Ring). q .room) ring-same;
+              fair = a .fair;
+              kept = a .kept;
+              streams = a .streams;
+              rows = a .rows;
+            })
