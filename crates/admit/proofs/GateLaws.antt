@@ -8,7 +8,7 @@ use Rattle.rules.specs.declared.Base.{Base}
 use Rattle.rules.specs.declared.End.{End}
 use Rattle.rules.specs.declared.Refusal.{Refusal}
 use Rattle.rules.specs.declared.Refusal.the-variants.{Sizes}
-use Rattle.rules.specs.Call.{Run, Given, refuse, accept, judged}
+use Rattle.rules.specs.Call.{Run, refuse, accept, judged}
 use Rattle.admit.specs.declared.Gate.the-variants.{Open, Shut}
 use Rattle.admit.specs.Gates.{gateOf}
 

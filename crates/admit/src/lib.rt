@@ -202,8 +202,8 @@ fn judge(lengths: &[u64], stage: Stage, b: Base) -> Gate
     Gate::Open
 }
 
-// Whether a base is let in to a run that goes on, of the lengths of what is lent: 1, then 4, 6, 3, 5. Whatever stands in the queue's other two
-// columns, the starts and the stops.
+// Whether a base is let in to a run that goes on: 1, then 4, 6, 3, 5. The queue's starts and stops are not looked at, so the answer is right
+// whatever these are.
 pub fn admit<'a>(
     streams: usize,
     chroms: usize,
