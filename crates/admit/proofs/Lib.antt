@@ -2,3 +2,4 @@
 pub mod NamedLaws
 pub mod JudgeLaws
 pub mod RightLaws
+pub mod GateLaws

@@ -11,13 +11,14 @@ use Rattle.queue.specs.Ring.{Cells, Fair, waiting}
 use Rattle.admit.specs.declared.Lens.{Lens}
 use Rattle.admit.specs.Right.{named}
 
--- the queue's columns have the lengths that are told
+-- the queue's four columns have the lengths that l tells
 pub record Told (l : Lens) (c : Cells) : Type 0 where
   pub streams : length (c .stream) ≡ l .qstream
   pub rows : length (c .row) ≡ l .qrow
   pub starts : length (c .start) ≡ l .qstart
   pub stops : length (c .stop) ≡ l .qstop
 
+-- "1 to 8 streams", "1 to 256 chromosomes", the queue, the answer rows, and what the run names
 pub record Fits (l : Lens) (streams chroms : ℕ) (q : Ring) (ended : List Bool) (row next from to : List ℕ) (c : Cells) : Type 0 where
   pub some : 1 ≤ streams
   pub few : streams ≤ 8

@@ -13,11 +13,11 @@ use Rattle.admit.specs.declared.Lens.{Lens}
 
 -- ---- sizes and columns
 
--- "lent columns differ in length": the streams' three are of one length, and there is one length a chromosome
+-- "lent columns differ in length": not so where the streams' three are of one length, and there is one length a chromosome
 abbrev pub evenly : ℕ → Lens → Bool
 evenly chroms l = eqb (l .start) (l .chrom) && (eqb (l .stop) (l .chrom) && eqb (l .lengths) chroms)
 
--- "lent columns differ in length": the queue's four have a slot each for as many records as there is room for
+-- "lent columns differ in length": not so where each of the queue's four has as many slots as there is room for records
 abbrev pub slotted : ℕ → Lens → Bool
 slotted room l = (eqb (l .qstream) room && eqb (l .qrow) room) && (eqb (l .qstart) room && eqb (l .qstop) room)
 
@@ -43,7 +43,7 @@ placedAt rows next from to k = leb (getD from k 0) (getD next k 0) && leb (getD 
 unfoldable pub placed : ℕ → ℕ → List ℕ → List ℕ → List ℕ → Bool
 placed rows n next from to = all (placedAt rows next from to) (upto n)
 
--- "names no lent stream or row": not so of the stream s and its row, where there are n streams
+-- "names no lent stream or row": not so where s is one of n streams, and `row` one of its rows
 unfoldable pub named : ℕ → List ℕ → List ℕ → ℕ → ℕ → Bool
 named n from to s row = ltb s n && ltb row (getD to s 0 - getD from s 0)
 

@@ -1,6 +1,6 @@
 // Whether a base is let in to a run that goes on: refusal 1, then 4, 6, 3, 5. There are tests only, and nothing is written.
 ghost use mathlib.Core.Path.{_≡_};
-ghost use mathlib.Core.Bool.{true, _&&_, _||_};
+ghost use mathlib.Core.Bool.{_||_};
 ghost use mathlib.Core.List.{List};
 ghost use Prim.Native.Nat.{ℕ, _-_, _≤_};
 ghost use lib.Dec.{ltb};
@@ -188,11 +188,12 @@ fn judge(lengths: &[u64], stage: Stage, b: Base) -> Gate
     if number(lengths.len()) <= c.0 {
         return Gate::Shut(Refusal::Unlisted);
     }
+    let at = place_in(c.0);
+    let length = lengths[at];
     if b.stop < b.start {
         return Gate::Shut(Refusal::Reversed);
     }
-    let at = place_in(c.0);
-    if lengths[at] < b.stop {
+    if length < b.stop {
         return Gate::Shut(Refusal::Beyond);
     }
     if !follows(stage, b) {
@@ -201,8 +202,8 @@ fn judge(lengths: &[u64], stage: Stage, b: Base) -> Gate
     Gate::Open
 }
 
-// Whether a base is let in to a run that goes on, of the lengths of what is lent: 1, then 4, 6, 3, 5. Whatever stands in the queue's other two
-// columns, the starts and the stops.
+// Whether a base is let in to a run that goes on: 1, then 4, 6, 3, 5. The queue's starts and stops are not looked at, so the answer is right
+// whatever these are.
 pub fn admit<'a>(
     streams: usize,
     chroms: usize,

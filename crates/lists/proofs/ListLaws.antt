@@ -93,6 +93,15 @@ module _ {A : Type 0} where
   filter-passes p [] = nil
   filter-passes p (x ∷ l) = keep-passes p x (filter-passes p l) (p x) refl
 
+  keep-all : {P : A → Type 0} (t : Bool) (x : A) {l : List A} → P x → All P l → All P (keep t x l)
+  keep-all true x h k = cons h k
+  keep-all false x h k = k
+
+  -- what a test keeps is as all were
+  pub all-filter : {P : A → Type 0} (p : A → Bool) {l : List A} → All P l → All P (filter p l)
+  all-filter p nil = nil
+  all-filter p (cons {x} h k) = keep-all (p x) x h (all-filter p k)
+
   pub back-none : {le : A → A → Type 0} (p : A → Bool) → ((x y : A) → le x y → p x ≡ false → p y ≡ false) → {l : List A} → Sorted le l → All (λ x. p x ≡ false) (back p l)
   back-none p f Sorted.none = nil
   back-none p f (next {x} {l} h k) = go (p x) refl (back-none p f k)

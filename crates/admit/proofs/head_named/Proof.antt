@@ -1,5 +1,4 @@
 -- `head_named` meets its contract.
-use mathlib.Core.Path.{_≡_}
 use borrow.Author.Needs.{needs}
 use Rattle.admit.proofs.head_named.Statement.{statement}
 use Rattle.admit.proofs.head_named.Tie as tie

@@ -1,5 +1,5 @@
 -- `is_row` meets its contract: a stream that ends ahead of its start has no row.
-use mathlib.Core.Path.{_≡_, sym, ap}
+use mathlib.Core.Path.{sym, ap}
 use Prim.Native.Nat.{ℕ, _-_}
 use native.Mathlib.Omega.{arith}
 use lib.Dec.{ltb}

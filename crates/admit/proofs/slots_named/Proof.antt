@@ -1,5 +1,5 @@
 -- `slots_named` meets its contract: at each turn, the records passed are named.
-use mathlib.Core.Path.{_≡_, sym}
+use mathlib.Core.Path.{sym}
 use Prim.Native.Nat.{_-_}
 use native.Mathlib.Omega.{arith}
 use borrow.Author.Needs.{needs}
