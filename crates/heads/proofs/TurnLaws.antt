@@ -21,9 +21,9 @@ use Rattle.heads.specs.declared.Next.{Next}
 use Rattle.heads.specs.declared.Move.{Move}
 use Rattle.heads.specs.declared.Move.the-variants as move
 use Rattle.heads.specs.View.{Cols, foursOf, leftAt, restsOf}
-use Rattle.heads.specs.Least.{noBest, headOf, bestOf}
+use Rattle.heads.specs.Least.{headOf, bestOf}
 use Rattle.heads.specs.Move.{moveOf, takes, takenOf, behindBy, Placed, Shaped, endsAt, goesAt, moved, takenRecord}
-use Rattle.heads.proofs.RestLaws.{Shorter, shorter, InPlace, in-place, moved-placed, moved-shaped, decided, move-here, taken-same, stands}
+use Rattle.heads.proofs.RestLaws.{Shorter, shorter, InPlace, in-place, moved-placed, moved-shaped, decided, move-here, taken-same, stands, stayed}
 
 -- the heads are placed, and each array has its eight places
 pub record Turning (s : Cols) (h : Heads) : Type 0 where
@@ -92,15 +92,4 @@ module _ (s : Cols) (h : Heads) (w : Turning s h) (N : ℕ) (b : Base) where
 
     -- where no head is taken the turn says which is the least
     pub stays-best : (x : Best) → m ≡ move.Stay x → x ≡ bestOf (pick ahead (restsOf s h))
-    unfolding moveOf
-    stays-best x e = go (pick ahead (restsOf s h)) (sym here ∙ e)
-      where
-        go : (o : Pick Record) → moveOf N b (h .next) o ≡ move.Stay x → x ≡ bestOf o
-        go none z = let i : noBest ≡ x = cc in sym i
-        go (one a rest ts) z = case (taken b a) (next N a rest) rest z
-          where
-            case : (t : Bool) (o : Option End) (k : List Record) → cond t (takes (takenOf b a) (getD (h .next) (a .stream .0) 0 + 1) o k) (move.Stay (headOf a)) ≡ move.Stay x → x ≡ headOf a
-            case false o k z = let i : headOf a ≡ x = cc in sym i
-            case true (Option.some y) k z = let i : _≡_ {A = ℕ} 0 1 = cc in absurd (omega arith)
-            case true Option.none [] z = let i : _≡_ {A = ℕ} 0 1 = cc in absurd (omega arith)
-            case true Option.none (y ∷ l) z = let i : _≡_ {A = ℕ} 0 1 = cc in absurd (omega arith)
+    stays-best x e = stayed s h (w .shaped) (w .placed .few) N b x (sym here ∙ e)

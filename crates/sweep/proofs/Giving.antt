@@ -41,6 +41,7 @@ use Rattle.admit.specs.declared.Gate.the-variants.{Open, Shut}
 use Rattle.admit.specs.Gates.{known, lengthsOf, lastOf, judgedOf, gateOf}
 use Rattle.admit.specs.Fits.{Told, Fits}
 use Rattle.admit.proofs.RightLaws.{right-fits}
+use Rattle.admit.proofs.GateLaws.{gate-open, gate-refuses}
 use Rattle.sweep.specs.declared.Run.{Run}
 use Rattle.sweep.specs.declared.Given.{Given}
 use Rattle.sweep.specs.declared.Opened.{Opened}
@@ -125,12 +126,7 @@ loads-fine : (o : Option End) (to same h : Heads) (w : Check) → _≡_ {A = Loa
 loads-fine none to same h w k i = (refl, ap (λ (x : Loaded). x .heads) k)
 loads-fine (some f) to same h w k i = let z : check.Fine ≡ check.Wrong f = sym i ∙ ap (λ (x : Loaded). x .wrong) k in let y : _≡_ {A = ℕ} 0 1 = cc in absurd (omega arith)
 
--- ---- the tests before the pull
-
-gate-open : (u : Bool) (o : Option Refusal) → Open ≡ gateOf u o → (u ≡ true) × (o ≡ none)
-gate-open false o e = let z : _≡_ {A = ℕ} 0 1 = cc in absurd (omega arith)
-gate-open true none e = (refl, refl)
-gate-open true (some x) e = let z : _≡_ {A = ℕ} 0 1 = cc in absurd (omega arith)
+-- ---- the tests before the pull, and the call
 
 module _ (s : Cols) (lengths : List ℕ) (r : Run) (b : Base) (l : Lent) where
   abbrev pub R : rules.Run
@@ -158,14 +154,9 @@ module _ (s : Cols) (lengths : List ℕ) (r : Run) (b : Base) (l : Lent) where
   gate-at g t i e = e ∙ ap (λ (x : Stage). gateOf (rightOf s lengths r l) (judge (lengthsOf lengths) (lastOf x) b)) i
 
   -- a base that is refused
-  shut-given : (u : Bool) (o : Option Refusal) (x : Refusal) → Shut x ≡ gateOf u o → (w : Option End) → cond u (judged N (r .ring .room) (length (l .rows)) R b w o) (refuse R Sizes) ≡ refuse R x
-  shut-given false o x e w = let i : x ≡ Sizes = cc in rw i
-  shut-given true none x e w = let z : _≡_ {A = ℕ} 0 1 = cc in absurd (omega arith)
-  shut-given true (some y) x e w = let i : x ≡ y = cc in rw i
-
   shut-so : (t : Stage) → r .stage ≡ t → Going t → (x : Refusal) → Gated s lengths r b l (Shut x) → givenOf s lengths r b l ≡ refuse R x
-  shut-so Fresh i g x e = given-fresh i ∙ shut-given (rightOf s lengths r l) (judge (lengthsOf lengths) none b) x (gate-at (Shut x) Fresh i e) (loading N (R .left))
-  shut-so (After p) i g x e = given-after p i ∙ shut-given (rightOf s lengths r l) (judge (lengthsOf lengths) (some p) b) x (gate-at (Shut x) (After p) i e) none
+  shut-so Fresh i g x e = given-fresh i ∙ gate-refuses (rightOf s lengths r l) (judge (lengthsOf lengths) none b) N (r .ring .room) (length (l .rows)) R b (loading N (R .left)) x (sym (gate-at (Shut x) Fresh i e))
+  shut-so (After p) i g x e = given-after p i ∙ gate-refuses (rightOf s lengths r l) (judge (lengthsOf lengths) (some p) b) N (r .ring .room) (length (l .rows)) R b none x (sym (gate-at (Shut x) (After p) i e))
   shut-so (Over y) i g x e = absurd g
 
   -- "run unchanged", and all that was lent
@@ -190,7 +181,7 @@ module _ (s : Cols) (lengths : List ℕ) (r : Run) (b : Base) (l : Lent) where
 
   module _ (k : Gate) (gated : Gated s lengths r b l k) (opened : k ≡ Open) where
     opens-at : (t : Stage) → r .stage ≡ t → (rightOf s lengths r l ≡ true) × (judge (lengthsOf lengths) (lastOf t) b ≡ none)
-    opens-at t i = gate-open (rightOf s lengths r l) (judge (lengthsOf lengths) (lastOf t) b) (sym opened ∙ gate-at k t i gated)
+    opens-at t i = gate-open (rightOf s lengths r l) (judge (lengthsOf lengths) (lastOf t) b) (sym (gate-at k t i gated) ∙ opened)
 
     pub fits : Fits (lensOf s lengths l) (r .streams) (r .chroms) (r .ring) (r .ended) (r .row) (r .next) (r .from) (r .to) (l .cells)
     fits =

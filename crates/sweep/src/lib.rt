@@ -349,7 +349,19 @@ impl Run {
     {
         let ring = self.ring;
         let q = ring.clear(qstream, qrow, qstart, qstop, b);
-        self.draw(q, b, chrom, start, stop, qstream, qrow, qstart, qstop, streams, rows)
+        self.draw(
+            q,
+            b,
+            chrom,
+            start,
+            stop,
+            qstream,
+            qrow,
+            qstart,
+            qstop,
+            streams,
+            rows,
+        )
     }
 
     // The first base: the heads are loaded, and the first fault ends the run.
@@ -384,7 +396,18 @@ impl Run {
         let u = o.run;
         match w {
             Check::Wrong(e) => self.over(e),
-            Check::Fine => u.answer(b, chrom, start, stop, qstream, qrow, qstart, qstop, streams, rows),
+            Check::Fine => u.answer(
+                b,
+                chrom,
+                start,
+                stop,
+                qstream,
+                qrow,
+                qstart,
+                qstop,
+                streams,
+                rows,
+            ),
         }
     }
 
@@ -415,7 +438,18 @@ impl Run {
                 answer: Answer::Refused(x),
             };
         }
-        self.answer(b, chrom, start, stop, qstream, qrow, qstart, qstop, streams, rows)
+        self.answer(
+            b,
+            chrom,
+            start,
+            stop,
+            qstream,
+            qrow,
+            qstart,
+            qstop,
+            streams,
+            rows,
+        )
     }
 
     // Gives a base to the run. Lent are the streams' columns, the chromosomes' lengths, the queue's memory and the answer columns.
@@ -468,8 +502,34 @@ impl Run {
             b,
         );
         match stage {
-            Stage::Fresh => self.first(gate, b, chrom, start, stop, lengths, qstream, qrow, qstart, qstop, streams, rows),
-            Stage::After(p) => self.further(gate, b, chrom, start, stop, lengths, qstream, qrow, qstart, qstop, streams, rows),
+            Stage::Fresh => self.first(
+                gate,
+                b,
+                chrom,
+                start,
+                stop,
+                lengths,
+                qstream,
+                qrow,
+                qstart,
+                qstop,
+                streams,
+                rows,
+            ),
+            Stage::After(p) => self.further(
+                gate,
+                b,
+                chrom,
+                start,
+                stop,
+                lengths,
+                qstream,
+                qrow,
+                qstart,
+                qstop,
+                streams,
+                rows,
+            ),
             Stage::Over(e) => Given {
                 run: self,
                 answer: Answer::Ended(e),

@@ -12,44 +12,20 @@ use Rattle.heads.specs.declared.Next.{Next}
 use Rattle.heads.specs.declared.Move.{Move}
 use Rattle.heads.specs.declared.Move.the-variants as move
 use Rattle.heads.specs.View.{Cols, restsOf}
-use Rattle.heads.specs.Move.{moveOf, Placed, Shaped, endsAt, goesAt, moved}
-use Rattle.heads.proofs.RestLaws.{Shorter, shorter, InPlace, in-place, moved-placed, moved-shaped}
+use Rattle.heads.specs.Move.{moveOf, endsAt, goesAt}
+use Rattle.heads.proofs.TurnLaws.{Turning, Takes, ends-takes, goes-takes}
 
--- the heads are placed, and each array has its eight places
-pub record Turning (s : Cols) (h : Heads) : Type 0 where
-  pub placed : Placed s (h .streams) (h .next) (h .from) (h .to)
-  pub shaped : Shaped h
+-- a turn that takes a head: its place, the heads after it, and fewer rows
+abbrev pub TurnsTo : Cols → Heads → Taken → Heads → Type 0
+TurnsTo s h t g = (t .stream .0 < 8) × Turning s g × (total (restsOf s g) < total (restsOf s h))
 
--- what a turn does: the heads after it, one row less, and the place of the head that is taken
-pub record Turned (s : Cols) (h : Heads) (m : Move) : Type 0 where
-  pub turning : Turning s (moved h m)
-  pub less : Shorter s h m
-
-abbrev pub EndsTo : Cols → Heads → Taken → Type 0
-EndsTo s h t = (t .stream .0 < 8) × Turning s (endsAt h (t .stream .0)) × (total (restsOf s (endsAt h (t .stream .0))) < total (restsOf s h))
-
-abbrev pub GoesTo : Cols → Heads → Taken → Next → Type 0
-GoesTo s h t x = (t .stream .0 < 8) × Turning s (goesAt h (t .stream .0) x) × (total (restsOf s (goesAt h (t .stream .0) x)) < total (restsOf s h))
+turns-to : (s : Cols) (b : Base) (h : Heads) (t : Taken) (g : Heads) → Takes s b h t g → TurnsTo s h t g
+turns-to s b h t g k = (k .place, k .turning, omega (arith, k .less))
 
 -- m is the turn of these heads
 module _ (s : Cols) (h : Heads) (w : Turning s h) (N : ℕ) (b : Base) (m : Move) (is : m ≡ moveOf N b (h .next) (pick ahead (restsOf s h))) where
-  pub turned : Turned s h m
-  turned = record {
-    turning = record { placed = rw is (moved-placed s h (w .shaped) (w .placed .few) N b (w .placed)); shaped = moved-shaped h m (w .shaped) };
-    less = rw is (shorter s h (w .shaped) (w .placed .few) N b);
-  }
+  pub ends-turned : (t : Taken) → m ≡ move.Ends t → TurnsTo s h t (endsAt h (t .stream .0))
+  ends-turned t e = turns-to s b h t (endsAt h (t .stream .0)) (ends-takes s h w N b m is t e)
 
-  pub inside : InPlace s h (w .shaped) (w .placed .few) N b m
-  inside = rw is (in-place s h (w .shaped) (w .placed .few) N b)
-
-  pub ends-turned : (t : Taken) → m ≡ move.Ends t → EndsTo s h t
-  ends-turned t e =
-      let z : Turned s h (move.Ends t) = rw e at turned in
-      let i : t .stream .0 < h .streams = rw e at inside in
-      (omega (arith, w .placed .few), z .turning, omega (arith, z .less))
-
-  pub goes-turned : (t : Taken) (x : Next) → m ≡ move.Goes t x → GoesTo s h t x
-  goes-turned t x e =
-      let z : Turned s h (move.Goes t x) = rw e at turned in
-      let i : t .stream .0 < h .streams = rw e at inside in
-      (omega (arith, w .placed .few), z .turning, omega (arith, z .less))
+  pub goes-turned : (t : Taken) (x : Next) → m ≡ move.Goes t x → TurnsTo s h t (goesAt h (t .stream .0) x)
+  goes-turned t x e = turns-to s b h t (goesAt h (t .stream .0) x) (goes-takes s h w N b m is t x e)

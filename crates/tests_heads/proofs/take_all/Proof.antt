@@ -3,7 +3,9 @@ use denote.Ref.{now}
 use borrow.Author.Needs.{needs}
 use Rattle.lists.specs.Lists.{total}
 use Rattle.heads.specs.View.{Cols, cols, restsOf}
-use Rattle.tests_heads.proofs.Turning.{Turning, EndsTo, ends-turned, GoesTo, goes-turned}
+use Rattle.heads.specs.Move.{endsAt, goesAt}
+use Rattle.heads.proofs.TurnLaws.{Turning}
+use Rattle.tests_heads.proofs.Turning.{TurnsTo, ends-turned, goes-turned}
 use Rattle.tests_heads.proofs.take_all.Statement.{statement}
 use Rattle.tests_heads.proofs.take_all.Tie as tie
 use Rattle.tests_heads.proofs.take_all.Reads as reads
@@ -24,10 +26,10 @@ abbrev sc : tie.Start Inv-loop μ-loop → Cols
 sc c = cols (now (c .args .chrom)) (now (c .args .start)) (now (c .args .stop))
 
 -- a head was taken, and its stream has ended; or the row behind it is its head
-ended-turn : (c : tie.After-m2 Inv-loop μ-loop) → EndsTo (sc (c .before .before .before .before .before .before .before)) (c .before .before .before .loop .h) (c .m2 .given .0 .0)
+ended-turn : (c : tie.After-m2 Inv-loop μ-loop) → TurnsTo (sc (c .before .before .before .before .before .before .before)) (c .before .before .before .loop .h) (c .m2 .given .0 .0) (endsAt (c .before .before .before .loop .h) (c .m2 .given .0 .0 .stream .0))
 ended-turn c = ends-turned (sc (c .before .before .before .before .before .before .before)) (c .before .before .before .loop .h) (c .before .before .before .loop .inv) (c .before .before .before .before .before .before .before .args .n) (c .before .before .before .before .before .before .before .args .b) (c .before .before .turn .result) (c .before .before .turn .ensures) _ (c .m2 .given .1)
 
-went-turn : (c : tie.After-m3 Inv-loop μ-loop) → GoesTo (sc (c .before .before .before .before .before .before .before)) (c .before .before .before .loop .h) (c .m3 .given .0 .0) (c .m3 .given .0 .1 .0)
+went-turn : (c : tie.After-m3 Inv-loop μ-loop) → TurnsTo (sc (c .before .before .before .before .before .before .before)) (c .before .before .before .loop .h) (c .m3 .given .0 .0) (goesAt (c .before .before .before .loop .h) (c .m3 .given .0 .0 .stream .0) (c .m3 .given .0 .1 .0))
 went-turn c = goes-turned (sc (c .before .before .before .before .before .before .before)) (c .before .before .before .loop .h) (c .before .before .before .loop .inv) (c .before .before .before .before .before .before .before .args .n) (c .before .before .before .before .before .before .before .args .b) (c .before .before .turn .result) (c .before .before .turn .ensures) _ _ (c .m3 .given .1)
 
 -- src/main.rt:107:5
