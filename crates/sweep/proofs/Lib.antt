@@ -5,3 +5,5 @@ pub mod Reporting
 pub mod Drawing
 pub mod Pulling
 pub mod Giving
+pub mod Starting
+pub mod StartLaws

@@ -21,7 +21,7 @@ use Rattle.sweep.specs.declared.Run.{Run}
 use Rattle.sweep.specs.View.{headsOf, leftBy, runOf, heldOf, eight, overOf}
 
 -- eight times the same
-eight-at : {A : Type 0} (x d : A) (k : ℕ) → k < 8 → getD (eight x) k d ≡ x
+pub eight-at : {A : Type 0} (x d : A) (k : ℕ) → k < 8 → getD (eight x) k d ≡ x
 eight-at x d zero h = refl
 eight-at x d (suc zero) h = refl
 eight-at x d (suc (suc zero)) h = refl

@@ -2,3 +2,4 @@
 pub mod View
 pub mod Settle
 pub mod Give
+pub mod Start

@@ -1,4 +1,6 @@
 // The sweep: one base in, its records and an offer out.
+mod start;
+
 use admit::Gate;
 use admit::Lens;
 use heads::Best;
@@ -13,6 +15,8 @@ use rules::Answer;
 use rules::Base;
 use rules::End;
 use rules::Stage;
+pub use start::Begins;
+pub use start::Started;
 ghost use mathlib.Core.Path.{_≡_};
 ghost use mathlib.Core.Bool.{Bool, true, false};
 ghost use Prim.Native.Nat.{_≤_, _<_};
