@@ -1,0 +1,4 @@
+-- What every sequence of calls comes to.
+pub mod RowsLaws
+pub mod RunAnswers
+pub mod Demanded

@@ -1,0 +1,100 @@
+-- What the bases get by the calls of a run is what the rules' own run gives them: for every job, room and number of streams.
+use mathlib.Core.Path.{_≡_, refl, sym, ap, subst, _∙_}
+use mathlib.Core.Bool.{Bool, true, false}
+use mathlib.Core.List.{List, [], _∷_}
+use Prim.Native.Nat.{ℕ, _≤_}
+use native.Mathlib.Omega.{arith}
+use lib.ListN.{length}
+use Rattle.rules.specs.declared.Base.{Base}
+use Rattle.rules.specs.declared.End.{End}
+use Rattle.rules.specs.declared.Refusal.{Refusal}
+use Rattle.rules.specs.declared.Refusal.the-variants.{Sizes}
+use Rattle.rules.specs.declared.Stage.{Stage}
+use Rattle.rules.specs.declared.Stage.the-variants.{Fresh, After, Over}
+use Rattle.rules.specs.declared.Answer.the-variants as answer
+use Rattle.rules.specs.Call.{Reply, found, refused, ended, answerOf, refuse, fresh, give}
+use Rattle.rules.specs.Call as rules
+use Rattle.rules.specs.Job.{lending, onward, replies, answers}
+use Rattle.heads.specs.View.{Cols}
+use Rattle.queue.specs.Ring.{Cells, waiting}
+use Rattle.queue.proofs.Waiting.{length-waiting}
+use Rattle.admit.specs.Gates.{lengthsOf}
+use Rattle.admit.specs.Fits.{Fits}
+use Rattle.admit.proofs.RightLaws.{right-fits}
+use Rattle.sweep.specs.declared.Run.{Run}
+use Rattle.sweep.specs.declared.Given.{Given}
+use Rattle.sweep.specs.declared.start.Begins.{Begins}
+use Rattle.sweep.specs.declared.start.Begins.the-variants.{Begun}
+use Rattle.sweep.specs.View.{headsOf, runOf}
+use Rattle.sweep.specs.Settle.{drawnTo, runBy, Lent, lent}
+use Rattle.sweep.specs.Give.{lensOf, rightOf, givenOf, openedBy, Gives}
+use Rattle.sweep.specs.Start.{Plan, streamsOf, runFrom, startOf}
+use Rattle.sweep.proofs.StartLaws.{begun-fresh}
+use Rattle.demands.specs.Calls.{Unheeded, Calls, none, call, unheeded, jobOf, Runs}
+use Rattle.demands.proofs.RowsLaws.{give-rows, give-over, give-wrong}
+
+-- a reply that is answered by 1
+sizes-reply : (t : Reply) → answerOf t ≡ answer.Refused Sizes → t ≡ refused Sizes
+sizes-reply (found l o) e = let z : _≡_ {A = ℕ} 0 1 = cc in absurd (omega arith)
+sizes-reply (refused x) e = let i : x ≡ Sizes = cc in rw i
+sizes-reply (ended x) e = let z : _≡_ {A = ℕ} 0 1 = cc in absurd (omega arith)
+
+module _ (s : Cols) (lengths : List ℕ) where
+  -- ---- one call
+
+  module _ (r : Run) (b : Base) (l : Lent) where
+    abbrev R : rules.Run
+    R = runOf s (l .cells) r
+
+    -- what fits has no more waiting than there is room for, and as many answer rows
+    fits-so : rightOf s lengths r l ≡ true → Fits (lensOf s lengths l) (r .streams) (r .chroms) (r .ring) (r .ended) (r .row) (r .next) (r .from) (r .to) (l .cells)
+    fits-so e = right-fits (lensOf s lengths l) (r .streams) (r .chroms) (r .ring) (r .ended) (r .row) (r .next) (r .from) (r .to) (l .cells) (record { streams = refl; rows = refl; starts = refl; stops = refl }) e
+
+    right-given : rightOf s lengths r l ≡ true → givenOf s lengths r b l ≡ give (lengthsOf lengths) (r .ring .room) (lending (r .ring .room)) R b
+    right-given e =
+        let f : Fits (lensOf s lengths l) (r .streams) (r .chroms) (r .ring) (r .ended) (r .row) (r .next) (r .from) (r .to) (l .cells) = fits-so e in
+        ap (λ (u : Bool). give (lengthsOf lengths) (r .ring .room) (record { right = u; rows = length (l .rows) }) R b) e
+        ∙ give-rows (lengthsOf lengths) (r .ring .room) (length (l .rows)) R b (omega (arith, f .answer, f .paired)) (omega (arith, length-waiting (r .ring) (l .cells), f .fair .sound .fits))
+
+    -- a call that 1 does not refuse is one of the rules', with Q answer rows
+    heeded-given : (g : Given) → g .answer ≡ answerOf (givenOf s lengths r b l .reply) → (Unheeded g → ⊥) → givenOf s lengths r b l ≡ give (lengthsOf lengths) (r .ring .room) (lending (r .ring .room)) R b
+    heeded-given g a h = by-stage (r .stage) refl
+      where
+        by-right : ((e : End) → r .stage ≡ Over e → ⊥) → (u : Bool) → rightOf s lengths r l ≡ u → givenOf s lengths r b l ≡ give (lengthsOf lengths) (r .ring .room) (lending (r .ring .room)) R b
+        by-right n true e = right-given e
+        by-right n false e =
+            let is : givenOf s lengths r b l ≡ refuse R Sizes =
+            ap (λ (u : Bool). give (lengthsOf lengths) (r .ring .room) (record { right = u; rows = length (l .rows) }) R b) e ∙ give-wrong (lengthsOf lengths) (r .ring .room) (length (l .rows)) R b n in
+            absurd (h (a ∙ ap (λ (t : rules.Given). answerOf (t .reply)) is))
+
+        by-stage : (t : Stage) → r .stage ≡ t → givenOf s lengths r b l ≡ give (lengthsOf lengths) (r .ring .room) (lending (r .ring .room)) R b
+        by-stage Fresh i = by-right (λ e j. let z : Fresh ≡ Over e = sym i ∙ j in let y : _≡_ {A = ℕ} 0 1 = cc in absurd (omega arith)) (rightOf s lengths r l) refl
+        by-stage (After p) i = by-right (λ e j. let z : After p ≡ Over e = sym i ∙ j in let y : _≡_ {A = ℕ} 0 1 = cc in absurd (omega arith)) (rightOf s lengths r l) refl
+        by-stage (Over e) i = give-over (lengthsOf lengths) (r .ring .room) (record { right = rightOf s lengths r l; rows = length (l .rows) }) (lending (r .ring .room)) R b e i
+
+  -- ---- all calls
+
+  pub calls-replies : (Q : ℕ) {r : Run} {c : Cells} {bs : List Base} {ts : List Reply} → r .ring .room ≡ Q → Calls s lengths r c bs ts → ts ≡ replies (lengthsOf lengths) Q (runOf s c r) bs
+  unfolding replies
+  calls-replies Q q none = refl
+  calls-replies Q q (call {r = r} {c = c} {b = b} {bs = bs} {ts = ts} ss rs g l′ gives heeded k) =
+      let l : Lent = lent c ss rs in
+      let is : givenOf s lengths r b l ≡ give (lengthsOf lengths) Q (lending Q) (runOf s c r) b =
+      heeded-given r b l g (gives .settles .answer) heeded ∙ ap (λ (n : ℕ). give (lengthsOf lengths) n (lending n) (runOf s c r) b) q in
+      let more : ts ≡ replies (lengthsOf lengths) Q (give (lengthsOf lengths) Q (lending Q) (runOf s c r) b .run) bs =
+      calls-replies Q (gives .settles .room ∙ q) k ∙ ap (λ (x : rules.Run). replies (lengthsOf lengths) Q x bs) (gives .settles .run ∙ ap (λ (x : rules.Given). x .run) is) in
+      ap (λ (x : rules.Given). x .reply ∷ ts) is ∙ ap (λ (k : List Reply). give (lengthsOf lengths) Q (lending Q) (runOf s c r) b .reply ∷ k) more
+  calls-replies Q q (unheeded {r = r} {c = c} {b = b} {bs = bs} ss rs g l′ gives u k) =
+      let l : Lent = lent c ss rs in
+      let no : givenOf s lengths r b l .reply ≡ refused Sizes = sizes-reply (givenOf s lengths r b l .reply) (sym (gives .settles .answer) ∙ u) in
+      let run-same : g .run ≡ r = gives .settles .exact ∙ ap (λ (t : Reply). runBy t b (drawnTo s (r .chroms) b (openedBy (r .stage) s (headsOf r))) r (g .run .ring)) no in
+      let cells-same : l′ .cells ≡ c = ap (λ (x : Lent). x .cells) (gives .still Sizes no) in
+      calls-replies Q (gives .settles .room ∙ q) k
+      ∙ ap (λ (x : Cells). replies (lengthsOf lengths) Q (runOf s x (g .run)) bs) cells-same
+      ∙ ap (λ (x : Run). replies (lengthsOf lengths) Q (runOf s c x) bs) run-same
+
+-- the replies to the bases that are given to a run that begins are the job's answers by the rules
+pub run-answers : (p : Plan) (lengths : List ℕ) (bs : List Base) (ts : List Reply) → Runs p lengths bs ts → ts ≡ answers (jobOf p lengths) bs
+run-answers p lengths bs ts k =
+    calls-replies (p .cols) lengths (p .room) (ap (λ (x : Begins). runFrom x p .ring .room) (k .begun)) (k .calls)
+    ∙ ap (λ (x : rules.Run). replies (lengthsOf lengths) (p .room) x bs) (begun-fresh p (k .begun) (k .cells))

@@ -1,0 +1,2 @@
+-- Calls of a run, one after the other.
+pub mod Calls
