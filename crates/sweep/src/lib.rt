@@ -352,9 +352,9 @@ impl Run {
             (lent (cells (now (qstream .exit)) (now (qrow .exit)) (now (qstart .exit)) (now (qstop .exit))) (now (streams .exit)) (now (rows .exit))) ⌝ }
     {
         let ring = self.ring;
-        let q = ring.clear(qstream, qrow, qstart, qstop, b);
+        let live = ring.clear(qstream, qrow, qstart, qstop, b);
         self.draw(
-            q,
+            live,
             b,
             chrom,
             start,
