@@ -2,3 +2,4 @@
 pub mod RowsLaws
 pub mod RunAnswers
 pub mod Demanded
+pub mod OneResult
