@@ -1,6 +1,9 @@
-// The offered place: what waits first, or else the least head, says how far bases may be left out.
+// What a base gets: the records that overlap it, of those that wait, and the offered place. What waits first, or else the least head, says how far
+// bases may be left out.
 use heads::Best;
 use queue::Front;
+use queue::Ring;
+use rules::Answer;
 use rules::Base;
 use rules::Chrom;
 use rules::Offer;
@@ -10,7 +13,9 @@ ghost use mathlib.Core.Option.{some};
 ghost use Rattle.rules.specs.Overlap.{awaited};
 ghost use Rattle.rules.specs.Offer.{placeFor};
 ghost use Rattle.heads.specs.Move.{bestRecord};
-ghost use Rattle.offers.specs.Offers.{startAt, offerBy};
+ghost use Rattle.queue.specs.Ring.{cells};
+ghost use Rattle.queue.specs.Deeds.{Scannable};
+ghost use Rattle.offers.specs.Offers.{startAt, offerBy, Reports};
 
 // The place for a record that starts at `start` on a chromosome, the first that the base awaits.
 fn place_for(b: Base, chrom: Chrom, start: u64) -> Offer
@@ -51,7 +56,7 @@ fn is_awaited(b: Base, h: Best) -> bool
 }
 
 // The offer after a base: `first` is where the first that waits starts, and h is the least head.
-pub fn offer_after(b: Base, first: Front, h: Best) -> Offer
+fn offer_after(b: Base, first: Front, h: Best) -> Offer
     ensures { λ r. ⌜ r ≡ offerBy b first h ⌝ }
 {
     if b.stop <= b.start {
@@ -70,4 +75,27 @@ pub fn offer_after(b: Base, first: Front, h: Best) -> Offer
             place_for(b, h.chrom, h.start)
         }
     }
+}
+
+// The answer to a base for which no head is to be taken any more: its records are written, and a place is offered. q holds what waits, all of it
+// live for the base, and h is the least head.
+pub fn report(
+    q: Ring,
+    h: Best,
+    b: Base,
+    qstream: &[u64],
+    qrow: &[u64],
+    qstart: &[u64],
+    qstop: &[u64],
+    streams: &mut [u64],
+    rows: &mut [u64],
+) -> Answer
+    requires { ⌜ Scannable q (cells (now qstream) (now qrow) (now qstart) (now qstop)) b (now streams) (now rows) ⌝ }
+    ensures { λ a. ⌜ Reports q (cells (now (qstream .entry)) (now (qrow .entry)) (now (qstart .entry)) (now (qstop .entry))) h b
+        (now (streams .entry)) (now (rows .entry)) a (now (streams .exit)) (now (rows .exit)) ⌝ }
+{
+    let first = q.front(qstart);
+    let o = offer_after(b, first, h);
+    let n = q.scan(qstream, qrow, qstart, qstop, b, streams, rows);
+    Answer::Found(n, o)
 }

@@ -15,6 +15,7 @@ use Rattle.rules.specs.declared.End.{End}
 use Rattle.rules.specs.declared.End.the-variants.{NoRoom}
 use Rattle.rules.specs.declared.Stage.{Stage}
 use Rattle.rules.specs.declared.Stage.the-variants.{Fresh, After, Over}
+use Rattle.rules.specs.declared.Answer.{Answer}
 use Rattle.rules.specs.declared.Answer.the-variants as answer
 use Rattle.rules.specs.Rows.{Record}
 use Rattle.rules.specs.Merge.{pick}
@@ -39,12 +40,12 @@ use Rattle.queue.specs.declared.Ring.{Ring}
 use Rattle.queue.specs.Ring.{Cells, Fair, recordOf, waiting}
 use Rattle.queue.specs.Deeds.{Scannable, frontOf}
 use Rattle.queue.proofs.Waiting.{length-waiting}
-use Rattle.offers.specs.Offers.{offerBy}
+use Rattle.offers.specs.Offers.{offerBy, Reports}
 use Rattle.offers.proofs.OfferLaws.{offer-by}
 use Rattle.sweep.specs.declared.Run.{Run}
 use Rattle.sweep.specs.declared.Given.{Given}
 use Rattle.sweep.specs.View.{headsOf, runWith, runOf, overOf}
-use Rattle.sweep.specs.Settle.{turnOf, afterTurns, drawnTo, endedBy, runBy, Going, Kept, Lent, lent, Settles, pullOf, Drawable, slotOf, KeptAs, FullAs, ReportsAs, DrawsAs}
+use Rattle.sweep.specs.Settle.{turnOf, afterTurns, drawnTo, endedBy, runBy, Going, Kept, Lent, lent, Settles, pullOf, Drawable, slotOf, KeptAs, FullAs, DrawsAs}
 use Rattle.sweep.proofs.ViewLaws.{over-held}
 
 -- ---- the heads
@@ -180,13 +181,13 @@ module _ (s : Cols) (r : Run) (b : Base) (q : Ring) (l : Lent) where
         over-same = rw (d .same, d .ranged .0, d .ranged .1, d .ranged .2)
 
     -- no head is to be taken: the base is answered
-    pub stays-so : Drawable s r b q l → (m : Move) → m ≡ here → (x : Best) → m ≡ move.Stay x → (g : Given) (ss rs : List ℕ) → ReportsAs u w c x b (l .streams) (l .rows) g ss rs → DrawsAs s r b q l g (lent c ss rs)
-    stays-so z m e x i g ss rs k = rw is-paused (rw few (record {
+    pub stays-so : Drawable s r b q l → (m : Move) → m ≡ here → (x : Best) → m ≡ move.Stay x → (v : Run) (a : Answer) (ss rs : List ℕ) → v ≡ runWith u (headsOf u) w (After b) → Reports w c x b (l .streams) (l .rows) a ss rs → DrawsAs s r b q l (record { run = v; answer = a }) (lent c ss rs)
+    stays-so z m e x i v a ss rs to k = rw is-paused (rw few (record {
       answer = k .answer ∙ rw place;
-      run = ap (runOf s c) (k .run);
-      exact = k .run ∙ rw (d .same) (ap (λ (h : Heads). runWith r h w (After b)) (sym last-heads)) ∙ ap (λ (y : Run). runWith r (drawnTo s (r .chroms) b (headsOf r)) (y .ring) (After b)) (sym (k .run));
-      room = ap (λ (y : Run). y .ring .room) (k .run) ∙ d .room ∙ z .room;
-      fair = λ y. subst (λ (x : Run). Fair (x .ring) c) (sym (k .run)) (d .fair);
+      run = ap (runOf s c) (to);
+      exact = to ∙ rw (d .same) (ap (λ (h : Heads). runWith r h w (After b)) (sym last-heads)) ∙ ap (λ (y : Run). runWith r (drawnTo s (r .chroms) b (headsOf r)) (y .ring) (After b)) (sym (to));
+      room = ap (λ (y : Run). y .ring .room) (to) ∙ d .room ∙ z .room;
+      fair = λ y. subst (λ (x : Run). Fair (x .ring) c) (sym (to)) (d .fair);
       kept = d .kept;
       streams = k .streams;
       rows = k .rows;

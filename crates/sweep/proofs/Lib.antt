@@ -1,7 +1,6 @@
 -- What the sweep's proofs cite.
 pub mod ViewLaws
 pub mod Keeping
-pub mod Reporting
 pub mod Drawing
 pub mod Pulling
 pub mod Giving

@@ -10,7 +10,9 @@ use Rattle.lists.specs.Build.{build}
 use Rattle.rules.specs.declared.Base.{Base}
 use Rattle.rules.specs.declared.End.{End}
 use Rattle.rules.specs.declared.End.the-variants.{NoRoom}
+use Rattle.rules.specs.declared.Answer.{Answer}
 use Rattle.rules.specs.declared.Answer.the-variants as answer
+use Rattle.rules.specs.declared.Stage.the-variants.{After}
 use Rattle.rules.specs.Rows.{Record}
 use Rattle.rules.specs.Merge.{pick}
 use Rattle.rules.specs.Streams.{ahead}
@@ -30,10 +32,11 @@ use Rattle.queue.specs.declared.Pushed.{Pushed}
 use Rattle.queue.specs.declared.Pushed.the-variants.{Done, Full}
 use Rattle.queue.specs.Ring.{Cells, Fair, waiting}
 use Rattle.queue.specs.Deeds.{Scannable}
+use Rattle.offers.specs.Offers.{Reports}
 use Rattle.sweep.specs.declared.Run.{Run}
 use Rattle.sweep.specs.declared.Given.{Given}
 use Rattle.sweep.specs.View.{headsOf, runWith, overOf}
-use Rattle.sweep.specs.Settle.{Kept, Lent, lent, Drawable, KeptAs, FullAs, Keeps, ReportsAs, DrawsAs}
+use Rattle.sweep.specs.Settle.{Kept, Lent, lent, Drawable, KeptAs, FullAs, Keeps, DrawsAs}
 use Rattle.sweep.proofs.Drawing.{Drawing, starts, here, on-move, queued-full, steps, ends-so, stays-so}
 
 -- r, q and l: the run, the ring and what was lent at the start; n: the number of chromosomes as the code has it
@@ -71,8 +74,8 @@ module _ (s : Cols) (r : Run) (b : Base) (q : Ring) (l : Lent) (n : ℕ) where
       is-here : t ≡ here s r b q l u w (m .cells) (k .drawing)
       is-here = decided s (headsOf u) (k .drawing .turning .shaped) (k .drawing .turning .placed .few) (r .chroms) b t p fours (rw (k .chroms) at is)
 
-      pub stay-out : (x : Best) → t ≡ move.Stay x → (g : Given) (ss rs : List ℕ) → ReportsAs u w (m .cells) x b (m .streams) (m .rows) g ss rs → DrawsAs s r b q l g (lent (m .cells) ss rs)
-      stay-out x e g ss rs h = stays-so s r b q l u w (m .cells) (k .drawing) (k .asked) t is-here x e g ss rs (rw (k .streams, k .rows) at h)
+      pub stay-out : (x : Best) → t ≡ move.Stay x → (v : Run) (a : Answer) (ss rs : List ℕ) → v ≡ runWith u (headsOf u) w (After b) → Reports w (m .cells) x b (m .streams) (m .rows) a ss rs → DrawsAs s r b q l (record { run = v; answer = a }) (lent (m .cells) ss rs)
+      stay-out x e v a ss rs i h = stays-so s r b q l u w (m .cells) (k .drawing) (k .asked) t is-here x e v a ss rs i (rw (k .streams, k .rows) at h)
 
       pub wrong-out : (e : End) → t ≡ move.Wrong e → (g : Given) → g ≡ record { run = overOf u e; answer = answer.Ended e } → DrawsAs s r b q l g m
       wrong-out e i g h =

@@ -4,7 +4,7 @@ use mathlib.Core.Bool.{true}
 use mathlib.Core.List.{List, [], _++_}
 use Prim.Native.Nat.{ℕ, zero, suc, _≤_, _<_}
 use lib.ListN.{length}
-use Rattle.lists.specs.Lists.{total, filter, keep, head?, All}
+use Rattle.lists.specs.Lists.{total, keep, All}
 use Rattle.rules.specs.declared.Base.{Base}
 use Rattle.rules.specs.declared.End.{End}
 use Rattle.rules.specs.declared.End.the-variants.{NoRoom}
@@ -13,14 +13,12 @@ use Rattle.rules.specs.declared.Stage.the-variants.{Fresh, After, Over}
 use Rattle.rules.specs.Rows.{Record}
 use Rattle.rules.specs.Merge.{pick}
 use Rattle.rules.specs.Streams.{ahead, next}
-use Rattle.rules.specs.declared.Answer.the-variants as answer
-use Rattle.rules.specs.Overlap.{taken, live, overlaps}
+use Rattle.rules.specs.Overlap.{taken, live}
 use Rattle.rules.specs.Pull.{Pull, pull}
 use Rattle.rules.specs.Call.{Reply, found, refused, ended, answerOf, column, afterPull}
 use Rattle.rules.specs.Call as rules
 use Rattle.heads.specs.declared.Heads.{Heads}
 use Rattle.heads.specs.declared.Move.{Move}
-use Rattle.heads.specs.declared.Best.{Best}
 use Rattle.heads.specs.declared.Taken.{Taken}
 use Rattle.heads.specs.View.{Cols, restsOf}
 use Rattle.heads.specs.Move.{moveOf, moved, Placed}
@@ -29,8 +27,6 @@ use Rattle.queue.specs.declared.Slot.{Slot}
 use Rattle.queue.specs.declared.Pushed.{Pushed}
 use Rattle.queue.specs.declared.Pushed.the-variants.{Done, Full}
 use Rattle.queue.specs.Ring.{Cells, Fair, recordOf, waiting}
-use Rattle.queue.specs.Deeds.{written, frontOf}
-use Rattle.offers.specs.Offers.{offerBy}
 use Rattle.sweep.specs.declared.Run.{Run}
 use Rattle.sweep.specs.declared.Given.{Given}
 use Rattle.sweep.specs.View.{headsOf, runWith, runOf, heldOf, overOf}
@@ -146,13 +142,6 @@ pub record FullAs (q : Ring) (c : Cells) (t : Taken) (c′ : Cells) : Type 0 whe
 pub record Keeps (q : Ring) (c : Cells) (t : Taken) (p : Pushed) (c′ : Cells) : Type 0 where
   pub done : (w : Ring) → p ≡ Done w → KeptAs q c t w c′
   pub full : p ≡ Full → FullAs q c t c′
-
--- a base is answered from what waits and the least head h
-pub record ReportsAs (r : Run) (q : Ring) (c : Cells) (h : Best) (b : Base) (ss rs : List ℕ) (g : Given) (ss′ rs′ : List ℕ) : Type 0 where
-  pub run : g .run ≡ runWith r (headsOf r) q (After b)
-  pub answer : g .answer ≡ answer.Found (length (filter (overlaps b) (waiting q c))) (offerBy b (frontOf (head? (waiting q c))) h)
-  pub streams : ss′ ≡ written (λ a. a .stream .0) (filter (overlaps b) (waiting q c)) ss
-  pub rows : rs′ ≡ written (λ a. a .row) (filter (overlaps b) (waiting q c)) rs
 
 -- what a pull comes to
 abbrev pub DrawsAs : Cols → Run → Base → Ring → Lent → Given → Lent → Type 0

@@ -3,7 +3,6 @@ mod start;
 
 use admit::Gate;
 use admit::Lens;
-use heads::Best;
 use heads::Check;
 use heads::Heads;
 use heads::Move;
@@ -23,10 +22,9 @@ ghost use Prim.Native.Nat.{_≤_, _<_};
 ghost use Rattle.heads.specs.View.{cols};
 ghost use Rattle.queue.specs.Ring.{cells, Fair};
 ghost use Rattle.sweep.specs.View.{headsOf, runWith, overOf};
-ghost use Rattle.queue.specs.Deeds.{Scannable};
 ghost use Rattle.heads.specs.Move.{Placed};
 ghost use Rattle.sweep.specs.Give.{Gives, Gated, Underway, Answerable, AnswersAs, OpensAs};
-ghost use Rattle.sweep.specs.Settle.{lent, Keeps, ReportsAs, Drawable, DrawsAs};
+ghost use Rattle.sweep.specs.Settle.{lent, Keeps, Drawable, DrawsAs};
 
 // A run: of each stream its head's chromosome, start, stop and row, whether it has ended, the place of the row behind its head in the
 // lent columns and where its rows begin and end there; the sizes; the queue's place in its memory; how the run stands.
@@ -154,33 +152,6 @@ impl Run {
         }
     }
 
-    // No head is to be taken any more, and h is the least: the records of the base are written, and a place is offered.
-    fn report(
-        self,
-        q: Ring,
-        h: Best,
-        b: Base,
-        qstream: &[u64],
-        qrow: &[u64],
-        qstart: &[u64],
-        qstop: &[u64],
-        streams: &mut [u64],
-        rows: &mut [u64],
-    ) -> Given
-        requires { ⌜ Scannable q (cells (now qstream) (now qrow) (now qstart) (now qstop)) b (now streams) (now rows) ⌝ }
-        ensures { λ g. ⌜ ReportsAs self q (cells (now (qstream .entry)) (now (qrow .entry)) (now (qstart .entry)) (now (qstop .entry))) h b
-            (now (streams .entry)) (now (rows .entry)) g (now (streams .exit)) (now (rows .exit)) ⌝ }
-    {
-        let first = q.front(qstart);
-        let o = offers::offer_after(b, first, h);
-        let n = q.scan(qstream, qrow, qstart, qstop, b, streams, rows);
-        let run = self.at(q, Stage::After(b));
-        Given {
-            run: run,
-            answer: Answer::Found(n, o),
-        }
-    }
-
     // Heads are taken while they lie ahead of the base's stop, and what is live is queued; then the base is answered.
     fn draw(
         self,
@@ -226,7 +197,22 @@ impl Run {
             );
             match m {
                 Move::Stay(h) => {
-                    return u.report(q, h, b, qstream, qrow, qstart, qstop, streams, rows);
+                    let answer = offers::report(
+                        q,
+                        h,
+                        b,
+                        qstream,
+                        qrow,
+                        qstart,
+                        qstop,
+                        streams,
+                        rows,
+                    );
+                    let run = u.at(q, Stage::After(b));
+                    return Given {
+                        run: run,
+                        answer: answer,
+                    };
                 }
                 Move::Wrong(x) => {
                     return u.over(x);
