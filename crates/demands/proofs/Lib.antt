@@ -1,4 +1,7 @@
 -- What every sequence of calls comes to.
 pub mod RowsLaws
+pub mod KeptLaws
+pub mod RangedLaws
 pub mod RunAnswers
 pub mod Demanded
+pub mod ComesBack
