@@ -4,7 +4,7 @@
 use mathlib.Core.Path.{_≡_, refl, sym, ap, subst, _∙_}
 use mathlib.Core.Bool.{Bool, true, false}
 use mathlib.Core.List.{List, [], _∷_}
-use Prim.Native.Nat.{ℕ, _-_, _<_, _≤_}
+use Prim.Native.Nat.{ℕ, _-_, _<_}
 use native.Mathlib.Omega.{arith}
 use native.Mathlib.Nat.{zero-add}
 use lib.ListN.{length, getD}
@@ -32,14 +32,18 @@ use Rattle.admit.specs.Right.{named}
 use Rattle.admit.proofs.RightLaws.{named-place}
 use Rattle.sweep.specs.declared.Run.{Run}
 use Rattle.sweep.specs.declared.Given.{Given}
+use Rattle.sweep.specs.declared.start.Begins.{Begins}
+use Rattle.sweep.specs.declared.start.Begins.the-variants.{Begun}
 use Rattle.sweep.specs.View.{headsOf, runWith, leftBy, runOf, overOf}
 use Rattle.sweep.specs.Settle.{drawnTo, endedBy, runBy, Going, Found, Lent, lent}
-use Rattle.sweep.specs.Give.{lensOf, rightOf, givenOf, openedBy, Gives}
+use Rattle.sweep.specs.Give.{rightOf, givenOf, openedBy, Gives}
+use Rattle.sweep.specs.Start.{Plan, runFrom, startOf, Lends}
 use Rattle.sweep.proofs.ViewLaws.{eight-at}
-use Rattle.demands.specs.Calls.{Blameless, SizedAs}
+use Rattle.sweep.proofs.StartLaws.{begun-right}
+use Rattle.demands.specs.Calls.{Unheeded, Calls, none, call, unheeded, Runs, Blameless, SizedAs, lastRun, lastCells}
 use Rattle.demands.proofs.KeptLaws.{each-all, Holds, give-holds}
 use Rattle.demands.proofs.RangedLaws.{Ranged, drawn-ranged}
-use Rattle.demands.proofs.RunAnswers.{FitsOf, fits-so, right-so}
+use Rattle.demands.proofs.RunAnswers.{FitsOf, fits-so, right-so, right-heeded}
 
 -- ---- what is named
 
@@ -48,6 +52,7 @@ abbrev Named : Run → Record → Type 0
 Named r a = named (r .streams) (r .from) (r .to) (a .stream .0) (a .row) ≡ true
 
 module _ (s : Cols) (lengths : List ℕ) (r : Run) (l : Lent) (f : FitsOf s lengths r l) where
+  -- the rows behind a head stand in its stream's range, and the head is one that 1 looks at
   behind-named : (k : ℕ) → k < r .streams → All (Named r) (behindAt s (headsOf r) k)
   behind-named k h =
       all-build (rowAt s (getD (r .from) k 0) k) (getD (r .to) k 0 - getD (r .next) k 0) (getD (r .next) k 0)
@@ -64,14 +69,14 @@ module _ (s : Cols) (lengths : List ℕ) (r : Run) (l : Lent) (f : FitsOf s leng
   unfolding restsOf
   rests-named = each-all (Named r) (all-build (restAt s (headsOf r)) (r .streams) 0 (λ k a b. rest-named k (omega arith)))
 
-  -- by all that is left of a run
+  -- so of all that is left of a run, by how it stands
   left-named : (t : Stage) → Each (All (Named r)) (leftBy t s (headsOf r))
   unfolding freshOf
   left-named Fresh = each-all (Named r) (all-build (behindAt s (headsOf r)) (r .streams) 0 (λ k a b. behind-named k (omega arith)))
   left-named (After p) = rests-named
   left-named (Over e) = rests-named
 
--- by the head of a stream that has not ended, where by all that is left
+-- a fact of all that is left is one of the head of each stream that has not ended
 head-holds : (P : Record → Type 0) (s : Cols) (h : Heads) → Each (All P) (restsOf s h) → (k : ℕ) → k < h .streams → getD (h .ended) k false ≡ false → P (headAt h k)
 unfolding restsOf
 head-holds P s h each k below goes-on =
@@ -94,6 +99,9 @@ pub record Returns (s : Cols) (lengths : List ℕ) (r u : Run) (d : Cells) : Typ
 sized-same : (r : Run) → SizedAs r r
 sized-same r = record { streams = refl; chroms = refl; room = refl; from = refl; to = refl }
 
+sized-trans : {r u v : Run} → SizedAs r u → SizedAs u v → SizedAs r v
+sized-trans a z = record { streams = z .streams ∙ a .streams; chroms = z .chroms ∙ a .chroms; room = z .room ∙ a .room; from = z .from ∙ a .from; to = z .to ∙ a .to }
+
 -- from what a run kept to, and what the run u after it names
 blameless-by : (s : Cols) (lengths : List ℕ) (r : Run) (l : Lent) → FitsOf s lengths r l → (u : Run) (d : Cells) → SizedAs r u → Placed s (u .streams) (u .next) (u .from) (u .to) → Fair (u .ring) d
     → ((k : ℕ) → k < u .streams → getD (u .ended) k false ≡ false → Named r (headAt (headsOf u) k)) → All (Named r) (waiting (u .ring) d) → Blameless s lengths u d
@@ -114,7 +122,7 @@ blameless-by s lengths r l f u d z placed fair heads slots ss rs enough paired =
     named-again : (a : Record) → Named r a → Named u a
     named-again a h = rw (z .streams, z .from, z .to) h
 
--- 1 is due at no other answer columns either
+-- where 1 is not due at one call, it is due at none but by the answer columns
 pub right-blameless : (s : Cols) (lengths : List ℕ) (r : Run) (l : Lent) → rightOf s lengths r l ≡ true → Blameless s lengths r (l .cells)
 right-blameless s lengths r l e =
     let f : FitsOf s lengths r l = fits-so s lengths r l e in
@@ -131,6 +139,7 @@ found-going s lengths r b l = go (r .stage)
     go (Over e) z = z
 
 module _ (s : Cols) (lengths : List ℕ) (r : Run) (b : Base) (l : Lent) (g : Given) (l′ : Lent) (gives : Gives s lengths r b l g l′) (ok : Blameless s lengths r (l .cells)) (whole : Whole r) where
+  -- the run fits with good answer columns, whatever columns this call lends
   abbrev m : Lent
   m = lent (l .cells) (upto (r .ring .room)) (upto (r .ring .room))
 
@@ -180,7 +189,7 @@ module _ (s : Cols) (lengths : List ℕ) (r : Run) (b : Base) (l : Lent) (g : Gi
         whole = λ z. w .shaped;
       }
 
-  -- whatever is answered
+  -- whatever is answered, 1 too
   pub returns : Returns s lengths r (g .run) (l′ .cells)
   returns = by-reply (givenOf s lengths r b l .reply) refl (gives .settles .exact)
     where
@@ -194,7 +203,7 @@ module _ (s : Cols) (lengths : List ℕ) (r : Run) (b : Base) (l : Lent) (g : Gi
       by-reply (refused x) i p = returns-same p (gives .still x i)
       by-reply (ended e) i p = by-stage e (r .stage) refl p
 
--- a run that was given a base and answered it
+-- the same of a call at which 1 was not due and the base was answered
 pub comes-back : (s : Cols) (lengths : List ℕ) (r : Run) (b : Base) (l : Lent) (g : Given) (l′ : Lent) → Gives s lengths r b l g l′ → rightOf s lengths r l ≡ true → Shaped (headsOf r)
     → Found (givenOf s lengths r b l .reply) → Blameless s lengths (g .run) (l′ .cells) × Shaped (headsOf (g .run))
 comes-back s lengths r b l g l′ gives right shaped answered =
@@ -205,3 +214,45 @@ comes-back s lengths r b l g l′ gives right shaped answered =
     goes-on (found hits o) z p = subst Going (sym (ap (λ (x : Run). x .stage) p)) tt
     goes-on (refused x) z p = absurd z
     goes-on (ended e) z p = absurd z
+
+-- ---- every sequence of calls
+
+-- one call, and then others
+returns-on : {s : Cols} {lengths : List ℕ} {r u : Run} {b : Base} {l : Lent} {g : Given} {l′ : Lent} {d : Cells} → Gives s lengths r b l g l′ → Blameless s lengths r (l .cells) → Whole r
+    → (Blameless s lengths (g .run) (l′ .cells) → Whole (g .run) → Returns s lengths (g .run) u d) → Returns s lengths r u d
+returns-on {s} {lengths} {r} {u} {b} {l} {g} {l′} {d} gives ok whole on =
+    let x : Returns s lengths r (g .run) (l′ .cells) = returns s lengths r b l g l′ gives ok whole in
+    let y : Returns s lengths (g .run) u d = on (x .blameless) (x .whole) in
+    record { blameless = y .blameless; sized = sized-trans (x .sized) (y .sized); whole = y .whole }
+
+-- the last of the calls
+calls-return : {s : Cols} {lengths : List ℕ} {r : Run} {c : Cells} {bs : List Base} {ts : List Reply} (k : Calls s lengths r c bs ts) → Blameless s lengths r c → Whole r → Returns s lengths r (lastRun k) (lastCells k)
+calls-return (none {r = r}) ok whole = record { blameless = ok; sized = sized-same r; whole = whole }
+calls-return (call ss rs g l′ gives heeded k) ok whole = returns-on gives ok whole (λ x y. calls-return k x y)
+calls-return (unheeded ss rs g l′ gives u k) ok whole = returns-on gives ok whole (λ x y. calls-return k x y)
+
+-- A run that begins by p, and its calls. Where the streams' rows begin stands in eight places, as the array's type says; the lengths and the queue's
+-- memory are those of the start, and with the two answer columns that one more call lends they are as much as the sizes ask.
+module _ (p : Plan) (lengths : List ℕ) (bs : List Base) (ts : List Reply) (k : Runs p lengths bs ts) (places : length (p .from) ≡ 8) (ss rs : List ℕ) (d : Lends p lengths (lent (k .cells) ss rs)) where
+  begun-blameless : Blameless (p .cols) lengths (startOf p .run) (k .cells)
+  begun-blameless streams rows enough paired =
+      begun-right p (k .begun) lengths (lent (k .cells) streams rows)
+      (record { listed = d .listed; stream = d .stream; row = d .row; start = d .start; stop = d .stop; answer = rw (k .begun) at enough; paired = paired })
+
+  begun-whole : Whole (startOf p .run)
+  begun-whole = rw (k .begun) (λ z. record { chrom = refl; start = refl; stop = refl; row = refl; ended = refl; next = places })
+
+  begun-returns : Returns (p .cols) lengths (startOf p .run) (lastRun (k .calls)) (lastCells (k .calls))
+  begun-returns = calls-return (k .calls) begun-blameless begun-whole
+
+  -- "its start and every call leave it with the sizes given at its start"
+  pub calls-sized : SizedAs (runFrom Begun p) (lastRun (k .calls))
+  calls-sized = subst (λ (x : Begins). SizedAs (runFrom x p) (lastRun (k .calls))) (k .begun) (begun-returns .sized)
+
+  -- "and naming, in heads and queue, dead slots too where these are looked at, only lent streams and rows"
+  pub calls-right : rightOf (p .cols) lengths (lastRun (k .calls)) (lent (lastCells (k .calls)) ss rs) ≡ true
+  calls-right = begun-returns .blameless ss rs (rw (calls-sized .room) (d .answer)) (d .paired)
+
+  -- "1 is then due only to what that call is newly given": one more call, of any base, is not answered by 1
+  pub calls-heeded : (b : Base) (g : Given) (l′ : Lent) → Gives (p .cols) lengths (lastRun (k .calls)) b (lent (lastCells (k .calls)) ss rs) g l′ → Unheeded g → ⊥
+  calls-heeded b g l′ gives u = right-heeded (p .cols) lengths (lastRun (k .calls)) b (lent (lastCells (k .calls)) ss rs) g calls-right (gives .settles .answer) u

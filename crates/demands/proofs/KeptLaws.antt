@@ -1,5 +1,4 @@
 -- A fact of every record that is left or waits: a pull keeps it, and so does a call.
-use mathlib.Core.Path.{_≡_}
 use mathlib.Core.Bool.{Bool, true, false, cond}
 use mathlib.Core.Option.{Option, none, some}
 use mathlib.Core.List.{List, [], _∷_, _++_}
@@ -22,7 +21,7 @@ use Rattle.rules.specs.Overlap.{taken, live, overlaps}
 use Rattle.rules.specs.Offer.{offer}
 use Rattle.rules.specs.Pull.{Pull, paused, ends, unlessWrong, turn, turns, pull}
 use Rattle.rules.specs.Bases.{judge}
-use Rattle.rules.specs.Call.{Run, Given, Lent, found, refuse, over, end, loading, coming, afterPull, pulling, accept, judged, byStage, give}
+use Rattle.rules.specs.Call.{Run, Lent, found, refuse, over, end, loading, coming, afterPull, pulling, judged, byStage, give}
 use Rattle.theory.proofs.MergeLaws.{Each, Picks, pick-picks, took-by}
 
 -- a fact of all elements of all lists is one of each list's, by its number

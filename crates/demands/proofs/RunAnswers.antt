@@ -31,7 +31,7 @@ use Rattle.sweep.specs.Give.{lensOf, rightOf, givenOf, openedBy, Gives}
 use Rattle.sweep.specs.Start.{Plan, streamsOf, runFrom, startOf}
 use Rattle.sweep.proofs.StartLaws.{begun-fresh}
 use Rattle.demands.specs.Calls.{Unheeded, Calls, none, call, unheeded, jobOf, Runs}
-use Rattle.demands.proofs.RowsLaws.{give-rows, give-over, give-wrong}
+use Rattle.demands.proofs.RowsLaws.{give-rows, give-over, give-wrong, give-heeded}
 
 -- a reply that is answered by 1
 sizes-reply : (t : Reply) → answerOf t ≡ answer.Refused Sizes → t ≡ refused Sizes
@@ -67,6 +67,12 @@ module _ (s : Cols) (lengths : List ℕ) where
         let f : FitsOf s lengths r l = fits-so r l e in
         ap (λ (u : Bool). give (lengthsOf lengths) (r .ring .room) (record { right = u; rows = length (l .rows) }) R b) e
         ∙ give-rows (lengthsOf lengths) (r .ring .room) (length (l .rows)) R b (omega (arith, f .answer, f .paired)) (omega (arith, length-waiting (r .ring) (l .cells), f .fair .sound .fits))
+
+    -- a call at which 1 is not due is not refused so
+    pub right-heeded : (g : Given) → rightOf s lengths r l ≡ true → g .answer ≡ answerOf (givenOf s lengths r b l .reply) → Unheeded g → ⊥
+    right-heeded g e a u =
+        give-heeded (lengthsOf lengths) (r .ring .room) (length (l .rows)) R b
+        (ap (λ (t : Bool). give (lengthsOf lengths) (r .ring .room) (record { right = t; rows = length (l .rows) }) R b .reply) (sym e) ∙ sizes-reply (givenOf s lengths r b l .reply) (sym a ∙ u))
 
     -- a call that 1 does not refuse is one of the rules', with Q answer rows
     heeded-given : (g : Given) → g .answer ≡ answerOf (givenOf s lengths r b l .reply) → (Unheeded g → ⊥) → givenOf s lengths r b l ≡ give (lengthsOf lengths) (r .ring .room) (lending (r .ring .room)) R b
