@@ -1,5 +1,8 @@
 -- What every sequence of calls comes to.
 pub mod RowsLaws
+pub mod KeptLaws
+pub mod RangedLaws
 pub mod RunAnswers
 pub mod Demanded
 pub mod OneResult
+pub mod ComesBack

@@ -1,18 +1,19 @@
--- 10 never comes where at least Q answer rows are lent: no more than Q records wait, so how many rows are lent beyond Q changes nothing.
-use mathlib.Core.Path.{_≡_, refl, sym, ap, _∙_}
+-- 10 never comes where at least Q answer rows are lent: no more than Q records wait, so how many rows are lent beyond Q changes nothing. And 1
+-- comes exactly where it is due.
+use mathlib.Core.Path.{_≡_, refl, sym, ap, subst, _∙_}
 use mathlib.Core.Bool.{Bool, true, false, cond}
 use mathlib.Core.Option.{Option, none, some}
 use mathlib.Core.List.{List, [], _∷_, _++_}
 use Prim.Native.Nat.{ℕ, zero, suc, _≤_, _<_}
 use native.Mathlib.Omega.{arith}
 use lib.Dec.{leb, ltb}
-use lib.ListN.{length, length-append}
+use lib.ListN.{length, length-append, getD}
 use borrow.Author.Tests.{leb-false, le-ltb}
 use Rattle.lists.specs.Lists.{total, filter}
 use Rattle.lists.proofs.ListLaws.{length-filter}
 use Rattle.rules.specs.declared.Base.{Base}
 use Rattle.rules.specs.declared.End.{End}
-use Rattle.rules.specs.declared.End.the-variants.{NoRoom}
+use Rattle.rules.specs.declared.End.the-variants.{NoRoom, NoRows}
 use Rattle.rules.specs.declared.Refusal.{Refusal}
 use Rattle.rules.specs.declared.Stage.{Stage}
 use Rattle.rules.specs.declared.Stage.the-variants.{Fresh, After, Over}
@@ -20,9 +21,10 @@ use Rattle.rules.specs.Rows.{Record}
 use Rattle.rules.specs.Merge.{Pick, pick}
 use Rattle.rules.specs.Streams.{ahead, next}
 use Rattle.rules.specs.Overlap.{taken, live, overlaps}
+use Rattle.rules.specs.Offer.{offer}
 use Rattle.rules.specs.Pull.{Pull, paused, ends, unlessWrong, turn, turns, pull}
-use Rattle.rules.specs.Bases.{judge}
-use Rattle.rules.specs.Call.{Run, Given, Lent, loading, afterPull, pulling, accept, judged, refuse, byStage, give}
+use Rattle.rules.specs.Bases.{inOrder, beyond, judge}
+use Rattle.rules.specs.Call.{Run, Reply, found, refused, ended, Given, Lent, refuse, end, loading, coming, afterPull, pulling, accept, judged, byStage, give}
 use Rattle.rules.specs.Job.{lending}
 
 -- ---- a pull leaves no more than Q
@@ -81,6 +83,8 @@ module _ (lengths : List (Option ℕ)) (Q rows : ℕ) (r : Run) (b : Base) (enou
       go (After p) = judged-rows none (judge lengths (some p) b)
       go (Over e) = refl
 
+-- ---- 1
+
 -- an ended run does not look at what is lent
 pub give-over : (lengths : List (Option ℕ)) (Q : ℕ) (l m : Lent) (r : Run) (b : Base) (e : End) → r .stage ≡ Over e → give lengths Q l r b ≡ give lengths Q m r b
 unfolding give
@@ -95,3 +99,48 @@ give-wrong lengths Q rows r b h = go (r .stage) refl
     go Fresh i = refl
     go (After p) i = refl
     go (Over e) i = absurd (h e i)
+
+-- a reply other than 1
+abbrev Heeded : Reply → Type 0
+Heeded (found l o) = Unit {0}
+Heeded (refused Refusal.Sizes) = ⊥
+Heeded (refused Refusal.Beyond) = Unit {0}
+Heeded (refused Refusal.Unlisted) = Unit {0}
+Heeded (refused Refusal.Unordered) = Unit {0}
+Heeded (refused Refusal.Reversed) = Unit {0}
+Heeded (ended e) = Unit {0}
+
+-- 4, 6, 3 and 5 are not 1
+judged-heeded : (n Q rows : ℕ) (r : Run) (b : Base) (w : Option End) (lengths : List (Option ℕ)) (last : Option Base) → Heeded (judged n Q rows r b w (judge lengths last b) .reply)
+unfolding judge
+judged-heeded n Q rows r b w lengths last =
+    go (leb (length lengths) (b .chrom .0)) (ltb (b .stop) (b .start)) (beyond (getD lengths (b .chrom .0) none) (b .stop)) (inOrder last b)
+  where
+    after : (p : Pull Record End) → Heeded (afterPull rows r b p .reply)
+    after (ends e) = tt
+    after (paused ss queue) = by-rows (ltb rows (length (filter (overlaps b) queue)))
+      where
+        by-rows : (u : Bool) → Heeded ((cond u (end r NoRows) (record { run = record { left = ss; queue = queue; stage = After b }; reply = found (filter (overlaps b) queue) (offer (coming ss queue) b) })) .reply)
+        by-rows true = tt
+        by-rows false = tt
+
+    accepted : (o : Option End) → Heeded (accept n Q rows r b o .reply)
+    accepted (some e) = tt
+    accepted none = after (pull ahead (next n) NoRoom (taken b) (live b) Q (r .left) (filter (live b) (r .queue)))
+
+    go : (t u v k : Bool) → Heeded (judged n Q rows r b w (cond t (some Refusal.Unlisted) (cond u (some Refusal.Reversed) (cond v (some Refusal.Beyond) (cond k none (some Refusal.Unordered))))) .reply)
+    go true u v k = tt
+    go false true v k = tt
+    go false false true k = tt
+    go false false false false = tt
+    go false false false true = accepted w
+
+-- where 1 is not due no base is refused so
+pub give-heeded : (lengths : List (Option ℕ)) (Q rows : ℕ) (r : Run) (b : Base) → give lengths Q (record { right = true; rows = rows }) r b .reply ≡ refused Refusal.Sizes → ⊥
+unfolding give
+give-heeded lengths Q rows r b e = subst Heeded e (go (r .stage))
+  where
+    go : (t : Stage) → Heeded (byStage lengths Q (record { right = true; rows = rows }) r b t .reply)
+    go Fresh = judged-heeded (length lengths) Q rows r b (loading (length lengths) (r .left)) lengths none
+    go (After p) = judged-heeded (length lengths) Q rows r b none lengths (some p)
+    go (Over x) = tt

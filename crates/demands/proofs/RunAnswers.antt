@@ -19,8 +19,8 @@ use Rattle.heads.specs.View.{Cols}
 use Rattle.queue.specs.Ring.{Cells, waiting}
 use Rattle.queue.proofs.Waiting.{length-waiting}
 use Rattle.admit.specs.Gates.{lengthsOf}
-use Rattle.admit.specs.Fits.{Fits}
-use Rattle.admit.proofs.RightLaws.{right-fits}
+use Rattle.admit.specs.Fits.{Told, Fits}
+use Rattle.admit.proofs.RightLaws.{right-fits, fits-right}
 use Rattle.sweep.specs.declared.Run.{Run}
 use Rattle.sweep.specs.declared.Given.{Given}
 use Rattle.sweep.specs.declared.start.Begins.{Begins}
@@ -31,7 +31,7 @@ use Rattle.sweep.specs.Give.{lensOf, rightOf, givenOf, openedBy, Gives}
 use Rattle.sweep.specs.Start.{Plan, streamsOf, runFrom, startOf}
 use Rattle.sweep.proofs.StartLaws.{begun-fresh}
 use Rattle.demands.specs.Calls.{Unheeded, Calls, none, call, unheeded, jobOf, Runs}
-use Rattle.demands.proofs.RowsLaws.{give-rows, give-over, give-wrong}
+use Rattle.demands.proofs.RowsLaws.{give-rows, give-over, give-wrong, give-heeded}
 
 -- a reply that is answered by 1
 sizes-reply : (t : Reply) → answerOf t ≡ answer.Refused Sizes → t ≡ refused Sizes
@@ -39,22 +39,40 @@ sizes-reply (found l o) e = let z : _≡_ {A = ℕ} 0 1 = cc in absurd (omega ar
 sizes-reply (refused x) e = let i : x ≡ Sizes = cc in rw i
 sizes-reply (ended x) e = let z : _≡_ {A = ℕ} 0 1 = cc in absurd (omega arith)
 
+-- the facts behind 1's test, of a run and what is lent with a base
+abbrev pub FitsOf : Cols → List ℕ → Run → Lent → Type 0
+FitsOf s lengths r l = Fits (lensOf s lengths l) (r .streams) (r .chroms) (r .ring) (r .ended) (r .row) (r .next) (r .from) (r .to) (l .cells)
+
 module _ (s : Cols) (lengths : List ℕ) where
   -- ---- one call
+
+  -- 1 is not due exactly where all fits
+  module _ (r : Run) (l : Lent) where
+    told : Told (lensOf s lengths l) (l .cells)
+    told = record { streams = refl; rows = refl; starts = refl; stops = refl }
+
+    pub fits-so : rightOf s lengths r l ≡ true → FitsOf s lengths r l
+    fits-so e = right-fits (lensOf s lengths l) (r .streams) (r .chroms) (r .ring) (r .ended) (r .row) (r .next) (r .from) (r .to) (l .cells) told e
+
+    pub right-so : FitsOf s lengths r l → rightOf s lengths r l ≡ true
+    right-so f = fits-right (lensOf s lengths l) (r .streams) (r .chroms) (r .ring) (r .ended) (r .row) (r .next) (r .from) (r .to) (l .cells) told f
 
   module _ (r : Run) (b : Base) (l : Lent) where
     abbrev R : rules.Run
     R = runOf s (l .cells) r
 
     -- what fits has no more waiting than there is room for, and as many answer rows
-    fits-so : rightOf s lengths r l ≡ true → Fits (lensOf s lengths l) (r .streams) (r .chroms) (r .ring) (r .ended) (r .row) (r .next) (r .from) (r .to) (l .cells)
-    fits-so e = right-fits (lensOf s lengths l) (r .streams) (r .chroms) (r .ring) (r .ended) (r .row) (r .next) (r .from) (r .to) (l .cells) (record { streams = refl; rows = refl; starts = refl; stops = refl }) e
-
     right-given : rightOf s lengths r l ≡ true → givenOf s lengths r b l ≡ give (lengthsOf lengths) (r .ring .room) (lending (r .ring .room)) R b
     right-given e =
-        let f : Fits (lensOf s lengths l) (r .streams) (r .chroms) (r .ring) (r .ended) (r .row) (r .next) (r .from) (r .to) (l .cells) = fits-so e in
+        let f : FitsOf s lengths r l = fits-so r l e in
         ap (λ (u : Bool). give (lengthsOf lengths) (r .ring .room) (record { right = u; rows = length (l .rows) }) R b) e
         ∙ give-rows (lengthsOf lengths) (r .ring .room) (length (l .rows)) R b (omega (arith, f .answer, f .paired)) (omega (arith, length-waiting (r .ring) (l .cells), f .fair .sound .fits))
+
+    -- a call at which 1 is not due is not refused so
+    pub right-heeded : (g : Given) → rightOf s lengths r l ≡ true → g .answer ≡ answerOf (givenOf s lengths r b l .reply) → Unheeded g → ⊥
+    right-heeded g e a u =
+        give-heeded (lengthsOf lengths) (r .ring .room) (length (l .rows)) R b
+        (ap (λ (t : Bool). give (lengthsOf lengths) (r .ring .room) (record { right = t; rows = length (l .rows) }) R b .reply) (sym e) ∙ sizes-reply (givenOf s lengths r b l .reply) (sym a ∙ u))
 
     -- a call that 1 does not refuse is one of the rules', with Q answer rows
     heeded-given : (g : Given) → g .answer ≡ answerOf (givenOf s lengths r b l .reply) → (Unheeded g → ⊥) → givenOf s lengths r b l ≡ give (lengthsOf lengths) (r .ring .room) (lending (r .ring .room)) R b

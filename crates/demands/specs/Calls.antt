@@ -1,7 +1,8 @@
 -- "runs that come back, with their columns, queue and all else lent but the answer rows, as the last call left them"
 use mathlib.Core.Path.{_≡_}
+use mathlib.Core.Bool.{true}
 use mathlib.Core.List.{List, [], _∷_}
-use Prim.Native.Nat.{ℕ}
+use Prim.Native.Nat.{ℕ, _≤_}
 use lib.ListN.{length}
 use Rattle.rules.specs.declared.Base.{Base}
 use Rattle.rules.specs.declared.Refusal.the-variants.{Sizes}
@@ -15,7 +16,7 @@ use Rattle.sweep.specs.declared.Run.{Run}
 use Rattle.sweep.specs.declared.Given.{Given}
 use Rattle.sweep.specs.declared.start.Begins.the-variants.{Begun}
 use Rattle.sweep.specs.Settle.{Lent, lent}
-use Rattle.sweep.specs.Give.{givenOf, Gives}
+use Rattle.sweep.specs.Give.{rightOf, givenOf, Gives}
 use Rattle.sweep.specs.Start.{Plan, streamsOf, startOf}
 
 -- "a base refused by 1 counts there as not given"
@@ -41,3 +42,28 @@ pub record Runs (p : Plan) (lengths : List ℕ) (bs : List Base) (ts : List Repl
   pub begun : startOf p .begins ≡ Begun
   pub cells : Cells
   pub calls : Calls (p .cols) lengths (startOf p .run) cells bs ts
+
+-- ---- "A run that comes back so is never itself the cause of 1"
+
+-- "1 is then due only to what that call is newly given": not where the two answer columns are of one length, and as long as the room at least
+abbrev pub Blameless : Cols → List ℕ → Run → Cells → Type 0
+Blameless s lengths r c = (streams rows : List ℕ) → r .ring .room ≤ length streams → length rows ≡ length streams → rightOf s lengths r (lent c streams rows) ≡ true
+
+-- "with the sizes given at its start": the run u has those of r, and its streams' ranges
+pub record SizedAs (r u : Run) : Type 0 where
+  pub streams : u .streams ≡ r .streams
+  pub chroms : u .chroms ≡ r .chroms
+  pub room : u .ring .room ≡ r .ring .room
+  pub from : u .from ≡ r .from
+  pub to : u .to ≡ r .to
+
+-- the run that the last of the calls gives back, and its queue's memory as that call left it
+abbrev pub lastRun : {s : Cols} {lengths : List ℕ} {r : Run} {c : Cells} {bs : List Base} {ts : List Reply} → Calls s lengths r c bs ts → Run
+lastRun (none {r = r}) = r
+lastRun (call streams rows g l′ gives heeded k) = lastRun k
+lastRun (unheeded streams rows g l′ gives u k) = lastRun k
+
+abbrev pub lastCells : {s : Cols} {lengths : List ℕ} {r : Run} {c : Cells} {bs : List Base} {ts : List Reply} → Calls s lengths r c bs ts → Cells
+lastCells (none {c = c}) = c
+lastCells (call streams rows g l′ gives heeded k) = lastCells k
+lastCells (unheeded streams rows g l′ gives u k) = lastCells k
