@@ -1,0 +1,2 @@
+-- Laws of the definitions in specs/, which the proofs of the functions here and in the listing cite.
+pub mod Decimal
