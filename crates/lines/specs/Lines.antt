@@ -18,9 +18,13 @@ unfoldable pub decimal : ℕ → List ℕ
 decimal n = spelled n n
 
 -- "fields parted by tabs": each with the tab ahead of it
-unfoldable pub tabbed : List (List ℕ) → List ℕ
+abbrev pub tabbed : List (List ℕ) → List ℕ
 tabbed [] = []
 tabbed (f ∷ fs) = 9 ∷ f ++ tabbed fs
+
+-- numbers as fields
+abbrev pub numbered : List ℕ → List ℕ
+numbered ns = tabbed (map decimal ns)
 
 -- "Lines end in LF": a mark, then fields
 abbrev pub line : ℕ → List (List ℕ) → List ℕ
