@@ -44,7 +44,7 @@ module _ (l : List ℕ) where
   unfolding numberOf
   bad-large h = rw (and-no (leb 1 (length l) && leb (length l) 20 && digits l) (leb (value 0 l) 18446744073709551615) (lt-leb (value 0 l) 18446744073709551615 h))
 
-  good-number : 1 ≤ length l → length l ≤ 20 → digits l ≡ true → value 0 l ≤ 18446744073709551615 → numberOf l ≡ good (value 0 l)
+  pub good-number : 1 ≤ length l → length l ≤ 20 → digits l ≡ true → value 0 l ≤ 18446744073709551615 → numberOf l ≡ good (value 0 l)
   unfolding numberOf
   good-number p q r s = rw (le-leb 1 (length l) p, le-leb (length l) 20 q, r, le-leb (value 0 l) 18446744073709551615 s)
 

@@ -1,0 +1,6 @@
+-- Laws of the definitions in specs/, which the proofs of the functions here and in the listing cite.
+pub mod Decimal
+pub mod Laying
+pub mod Spelling
+pub mod Fields
+pub mod Putting

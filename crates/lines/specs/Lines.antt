@@ -1,0 +1,47 @@
+-- The lines of the listing, as bytes.
+use Prim.Native.Nat.{ℕ, zero, suc, _+_, _/_, _%_}
+use mathlib.Core.List.{List, [], _∷_, _++_, map}
+use mathlib.Core.Bool.{cond}
+use lib.Dec.{ltb}
+
+-- a digit as a byte
+abbrev pub digit : ℕ → ℕ
+digit d = 48 + d
+
+-- the digits of a number, of which no more than `more` stand behind the first
+unfoldable pub spelled : ℕ → ℕ → List ℕ
+spelled zero n = digit n ∷ []
+spelled (suc more) n = cond (ltb n 10) (digit n ∷ []) (spelled more (n / 10) ++ (digit (n % 10) ∷ []))
+
+-- "A number is 1 to 20 digits, at most 18,446,744,073,709,551,615, no sign.": with no zero ahead, and 0 is one digit
+unfoldable pub decimal : ℕ → List ℕ
+decimal n = spelled n n
+
+-- "fields parted by tabs": each with the tab ahead of it
+abbrev pub tabbed : List (List ℕ) → List ℕ
+tabbed [] = []
+tabbed (f ∷ fs) = 9 ∷ f ++ tabbed fs
+
+-- numbers as fields
+abbrev pub numbered : List ℕ → List ℕ
+numbered ns = tabbed (map decimal ns)
+
+-- "Lines end in LF": a mark, then fields
+abbrev pub line : ℕ → List (List ℕ) → List ℕ
+line mark fields = mark ∷ tabbed fields ++ (10 ∷ [])
+
+-- `B one 25 35 2`: an accepted base, and how many records it has
+abbrev pub lineB : List ℕ → ℕ → ℕ → ℕ → List ℕ
+lineB name start stop count = line 66 (name ∷ map decimal (start ∷ stop ∷ count ∷ []))
+
+-- "R: stream, row, start, stop."
+abbrev pub lineR : ℕ → ℕ → ℕ → ℕ → List ℕ
+lineR stream row start stop = line 82 (map decimal (stream ∷ row ∷ start ∷ stop ∷ []))
+
+-- "X: refusal, base row from 0"; before the run "X, number, text .., rows ahead"
+abbrev pub lineX : ℕ → ℕ → List ℕ
+lineX number row = line 88 (map decimal (number ∷ row ∷ []))
+
+-- "for 7 and 8 stream and row follow"
+abbrev pub lineX′ : ℕ → ℕ → ℕ → ℕ → List ℕ
+lineX′ number base stream row = line 88 (map decimal (number ∷ base ∷ stream ∷ row ∷ []))
