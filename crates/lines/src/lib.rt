@@ -18,9 +18,9 @@ fn places(n: u64) -> usize
     ensures { λ r. ⌜ (r ≡ length (decimal n)) × (r ≤ 20) ⌝ }
 {
     let mut k: usize = 1;
-    let mut rest = n;
-    while 10 <= rest {
-        rest /= 10;
+    let mut left = n;
+    while 10 <= left {
+        left /= 10;
         k += 1;
     }
     k
