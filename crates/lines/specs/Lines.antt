@@ -8,17 +8,18 @@ use lib.Dec.{ltb}
 abbrev pub digit : ℕ → ℕ
 digit d = 48 + d
 
--- the digits of n, where `ahead` gives those of n / 10
-abbrev pub spelling : Bool → ℕ → (ℕ → List ℕ) → List ℕ
-spelling true n ahead = digit n ∷ []
-spelling false n ahead = ahead (n / 10) ++ (digit (n % 10) ∷ [])
+-- the digits of n: it alone, where it is below 10; else those that `ahead` gives of n / 10, and its last
+abbrev pub oneOrMore : Bool → ℕ → (ℕ → List ℕ) → List ℕ
+oneOrMore true n ahead = digit n ∷ []
+oneOrMore false n ahead = ahead (n / 10) ++ (digit (n % 10) ∷ [])
 
 -- the digits of a number, of which no more than `more` stand behind the first
 unfoldable pub spelled : ℕ → ℕ → List ℕ
 spelled zero n = digit n ∷ []
-spelled (suc more) n = spelling (ltb n 10) n (spelled more)
+spelled (suc more) n = oneOrMore (ltb n 10) n (spelled more)
 
--- "A number is 1 to 20 digits, at most 18,446,744,073,709,551,615, no sign.": with no zero ahead, and 0 is one digit
+-- "A number is 1 to 20 digits, at most 18,446,744,073,709,551,615, no sign.": with no zero ahead, and 0 is
+-- one digit. No number n has more than n digits behind its first.
 unfoldable pub decimal : ℕ → List ℕ
 decimal n = spelled n n
 

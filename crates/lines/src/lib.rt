@@ -2,7 +2,7 @@
 // The functions here are called by the proved listing alone.
 ghost use mathlib.Core.Path.{_≡_};
 ghost use mathlib.Core.List.{[], _∷_, _++_};
-ghost use Prim.Native.Nat.{_+_, _<_, _≤_};
+ghost use Prim.Native.Nat.{_+_, _≤_};
 ghost use lib.ListN.{length};
 ghost use Rattle.lines.specs.Lines.{decimal, numbered, lineB, lineR, lineX, lineX′};
 ghost use Rattle.lines.specs.Put.{Wrote, Puts};

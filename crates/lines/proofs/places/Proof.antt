@@ -7,8 +7,6 @@ use Rattle.lines.specs.Lines.{decimal}
 use Rattle.lines.proofs.Decimal.{places-one, places-more, places-some, places-few}
 use Rattle.lines.proofs.places.Statement.{statement}
 use Rattle.lines.proofs.places.Tie as tie
-use Rattle.lines.proofs.places.Reads as reads
-use Rattle.lines.proofs.places.Lts as lts
 
 abbrev Inv-loop : tie.InvT-loop
 Inv-loop n k₀ left₀ k left = (k + length (decimal left) ≡ length (decimal n) + 1) × (length (decimal n) ≤ 20)
