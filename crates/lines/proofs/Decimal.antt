@@ -2,14 +2,13 @@
 use Prim.Native.Nat.{ℕ, zero, suc, _+_, _-_, _*_, _/_, _%_, _^_, _≤_, _<_}
 use mathlib.Core.Path.{_≡_, refl, sym, ap, _∙_}
 use mathlib.Core.List.{List, [], _∷_, _++_}
-use mathlib.Core.Bool.{Bool, true, false, cond, _&&_}
+use mathlib.Core.Bool.{true}
 use native.Mathlib.Omega.{arith}
 use native.Mathlib.Decide.{decLt}
 use native.Mathlib.Nat.{pow-suc}
 use lib.ListN.{length, length-append}
-use lib.Dec.{ltb, leb}
-use borrow.Author.Tests.{lt-ltb, le-ltb, le-leb}
-use Rattle.text.specs.Number.{Read, good, digits, value, isDigit, numberOf}
+use borrow.Author.Tests.{lt-ltb, le-ltb}
+use Rattle.text.specs.Number.{good, digits, value, isDigit, numberOf}
 use Rattle.text.proofs.Numbers.{digit-is, good-number}
 use Rattle.lines.specs.Lines.{digit, spelled, decimal}
 

@@ -1,12 +1,12 @@
 -- Numbers as fields, one after the other: how many bytes they take, and that they are written.
-use Prim.Native.Nat.{ℕ, _+_, _*_, _≤_, _<_}
+use Prim.Native.Nat.{ℕ, _+_, _≤_, _<_}
 use mathlib.Core.Path.{_≡_, refl, sym, ap, _∙_}
-use mathlib.Core.List.{List, [], _∷_, _++_, map}
+use mathlib.Core.List.{List, [], _∷_, _++_}
 use native.Mathlib.Omega.{arith}
 use native.Mathlib.Numerals.{add-one}
 use lib.ListN.{length, getD, drop, length-append, drop-of-length-le}
 use lib.Seq.{drop-cons}
-use Rattle.lines.specs.Lines.{decimal, tabbed, numbered}
+use Rattle.lines.specs.Lines.{decimal, numbered}
 use Rattle.lines.specs.Put.{laid, Wrote}
 use Rattle.lines.proofs.Laying.{laid-none, laid-append, wrote-length}
 

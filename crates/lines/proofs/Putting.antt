@@ -1,7 +1,7 @@
 -- Bytes put to a buffer, all or none: what the proofs here show, and what a caller cites.
 use Prim.Native.Nat.{ℕ, _+_, _≤_, _<_}
 use mathlib.Core.Path.{_≡_, refl, sym, ap, _∙_}
-use mathlib.Core.List.{List, [], _∷_, _++_}
+use mathlib.Core.List.{List, _++_}
 use native.Mathlib.Omega.{arith}
 use native.Mathlib.Decide.{decLt}
 use lib.ListN.{length, take, drop, length-append}
@@ -61,6 +61,10 @@ module _ {old : List ℕ} {at : ℕ} {bytes : List ℕ} {new : List ℕ} where
   pub puts-length : (r : Put) → Puts old at bytes r new → length new ≡ length old
   puts-length (At r) p = let a = puts-at p in ap length (a .2) ∙ length-laid old at bytes (a .0)
   puts-length Full p = ap length (puts-full p .1)
+
+  -- what the next line asks
+  pub puts-inside : {r : ℕ} → Puts old at bytes (At r) new → r ≤ length new
+  puts-inside {r} p = let a = puts-at p in omega (arith, puts-length (At r) p)
 
 -- any two results are equal
 pub puts-alike : {old : List ℕ} {at : ℕ} {bytes : List ℕ} {r s : Put} {new also : List ℕ} → Puts old at bytes r new → Puts old at bytes s also → (r ≡ s) × (new ≡ also)

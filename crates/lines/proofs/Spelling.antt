@@ -1,11 +1,11 @@
 -- A number's digits written the last one first: what is left to write gives the same list.
 use Prim.Native.Nat.{ℕ, _+_, _-_, _/_, _%_, _≤_, _<_}
-use mathlib.Core.Path.{_≡_, refl, sym, ap, _∙_}
-use mathlib.Core.List.{List, [], _∷_}
+use mathlib.Core.Path.{_≡_, refl, sym, _∙_}
+use mathlib.Core.List.{List}
 use native.Mathlib.Omega.{arith}
 use lib.ListN.{length, set, length-set}
 use Rattle.lines.specs.Lines.{digit, decimal}
-use Rattle.lines.specs.Put.{laid, Wrote}
+use Rattle.lines.specs.Put.{laid}
 use Rattle.lines.proofs.Decimal.{decimal-one, decimal-more, places-one, places-more, places-some}
 use Rattle.lines.proofs.Laying.{laid-one, laid-snoc}
 

@@ -1,19 +1,25 @@
 -- The lines of the listing, as bytes.
 use Prim.Native.Nat.{ℕ, zero, suc, _+_, _/_, _%_}
 use mathlib.Core.List.{List, [], _∷_, _++_, map}
-use mathlib.Core.Bool.{cond}
+use mathlib.Core.Bool.{Bool, true, false}
 use lib.Dec.{ltb}
 
 -- a digit as a byte
 abbrev pub digit : ℕ → ℕ
 digit d = 48 + d
 
+-- the digits of n: it alone, where it is below 10; else those that `ahead` gives of n / 10, and its last
+abbrev pub oneOrMore : Bool → ℕ → (ℕ → List ℕ) → List ℕ
+oneOrMore true n ahead = digit n ∷ []
+oneOrMore false n ahead = ahead (n / 10) ++ (digit (n % 10) ∷ [])
+
 -- the digits of a number, of which no more than `more` stand behind the first
 unfoldable pub spelled : ℕ → ℕ → List ℕ
 spelled zero n = digit n ∷ []
-spelled (suc more) n = cond (ltb n 10) (digit n ∷ []) (spelled more (n / 10) ++ (digit (n % 10) ∷ []))
+spelled (suc more) n = oneOrMore (ltb n 10) n (spelled more)
 
--- "A number is 1 to 20 digits, at most 18,446,744,073,709,551,615, no sign.": with no zero ahead, and 0 is one digit
+-- "A number is 1 to 20 digits, at most 18,446,744,073,709,551,615, no sign.": with no zero ahead, and 0 is
+-- one digit. No number n has more than n digits behind its first.
 unfoldable pub decimal : ℕ → List ℕ
 decimal n = spelled n n
 

@@ -2,7 +2,7 @@
 // The functions here are called by the proved listing alone.
 ghost use mathlib.Core.Path.{_≡_};
 ghost use mathlib.Core.List.{[], _∷_, _++_};
-ghost use Prim.Native.Nat.{_+_, _<_, _≤_};
+ghost use Prim.Native.Nat.{_+_, _≤_};
 ghost use lib.ListN.{length};
 ghost use Rattle.lines.specs.Lines.{decimal, numbered, lineB, lineR, lineX, lineX′};
 ghost use Rattle.lines.specs.Put.{Wrote, Puts};
@@ -18,9 +18,9 @@ fn places(n: u64) -> usize
     ensures { λ r. ⌜ (r ≡ length (decimal n)) × (r ≤ 20) ⌝ }
 {
     let mut k: usize = 1;
-    let mut rest = n;
-    while 10 <= rest {
-        rest /= 10;
+    let mut left = n;
+    while 10 <= left {
+        left /= 10;
         k += 1;
     }
     k

@@ -1,5 +1,5 @@
 -- `lines::fields_size` meets its contract: the bytes of the numbers passed and those of the rest are all. Assumes nothing.
-use mathlib.Core.Path.{_≡_, refl}
+use mathlib.Core.Path.{_≡_}
 use Prim.Native.Nat.{_+_, _*_, _-_, _≤_}
 use native.Mathlib.Omega.{arith}
 use borrow.Author.Needs.{needs}
@@ -8,9 +8,6 @@ use Rattle.lines.specs.Lines.{numbered}
 use Rattle.lines.proofs.Fields.{size-more, size-none}
 use Rattle.lines.proofs.fields_size.Statement.{statement}
 use Rattle.lines.proofs.fields_size.Tie as tie
-use Rattle.lines.proofs.fields_size.Reads as reads
-use Rattle.lines.proofs.fields_size.Lts as lts
-use Rattle.lines.proofs.places.Reads as places-reads
 
 abbrev Inv-loop : tie.InvT-loop
 Inv-loop numbers size₀ k₀ size k = (k ≤ length numbers) × (size ≤ 21 * k) × (size + length (numbered (drop k numbers)) ≡ length (numbered numbers))

@@ -9,8 +9,6 @@ use lib.Seq.{paste, paste-zero, paste-suc}
 use Rattle.lines.proofs.Laying.{laid-paste}
 use Rattle.lines.proofs.put_bytes.Statement.{statement}
 use Rattle.lines.proofs.put_bytes.Tie as tie
-use Rattle.lines.proofs.put_bytes.Reads as reads
-use Rattle.lines.proofs.put_bytes.Lts as lts
 
 abbrev Inv-loop : tie.InvT-loop
 Inv-loop out₀ at bytes i₀ out i = (i ≤ length bytes) × (length out ≡ length out₀) × (out ≡ paste out₀ at bytes i)

@@ -3,15 +3,12 @@ use mathlib.Core.Path.{_≡_}
 use Prim.Native.Nat.{_+_, _/_}
 use native.Mathlib.Omega.{arith}
 use borrow.Author.Needs.{needs}
-use lib.ListN.{length, length-set}
+use lib.ListN.{length}
 use Rattle.lines.specs.Lines.{decimal}
 use Rattle.lines.proofs.Decimal.{places-more, places-some}
 use Rattle.lines.proofs.Spelling.{Spelling, spelling-start, spelling-digit, spelling-last}
 use Rattle.lines.proofs.put_decimal.Statement.{statement}
 use Rattle.lines.proofs.put_decimal.Tie as tie
-use Rattle.lines.proofs.put_decimal.Reads as reads
-use Rattle.lines.proofs.put_decimal.Lts as lts
-use Rattle.lines.proofs.places.Reads as places-reads
 
 abbrev Inv-loop : tie.InvT-loop
 Inv-loop out₀ at n end i₀ rest₀ out i rest = Spelling out₀ at n out i rest × (end ≡ at + length (decimal n))

@@ -4,10 +4,6 @@ use borrow.Author.Needs.{needs}
 use Rattle.lines.proofs.Laying.{wrote-append}
 use Rattle.lines.proofs.put_field.Statement.{statement}
 use Rattle.lines.proofs.put_field.Tie as tie
-use Rattle.lines.proofs.put_field.Reads as reads
-use Rattle.lines.proofs.put_field.Lts as lts
-use Rattle.lines.proofs.put_bytes.Reads as put-bytes-reads
-use Rattle.lines.proofs.put_decimal.Reads as put-decimal-reads
 
 slice-aggregate-put-bytes : tie.Need-slice-aggregate-put-bytes
 slice-aggregate-put-bytes c = search needs

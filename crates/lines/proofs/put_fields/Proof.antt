@@ -6,9 +6,6 @@ use lib.ListN.{length}
 use Rattle.lines.proofs.Fields.{Writing, writing-start, writing-room, writing-field, writing-done}
 use Rattle.lines.proofs.put_fields.Statement.{statement}
 use Rattle.lines.proofs.put_fields.Tie as tie
-use Rattle.lines.proofs.put_fields.Reads as reads
-use Rattle.lines.proofs.put_fields.Lts as lts
-use Rattle.lines.proofs.put_field.Reads as put-field-reads
 
 abbrev Inv-loop : tie.InvT-loop
 Inv-loop out₀ at numbers i₀ k₀ out i k = Writing out₀ at numbers out i k

@@ -6,11 +6,6 @@ use Rattle.lines.proofs.Putting.{length-parts, puts-none, puts-parts}
 use borrow.Author.Needs.{needs}
 use Rattle.lines.proofs.put_line.Statement.{statement}
 use Rattle.lines.proofs.put_line.Tie as tie
-use Rattle.lines.proofs.put_line.Reads as reads
-use Rattle.lines.proofs.put_line.Lts as lts
-use Rattle.lines.proofs.fields_size.Reads as fields-size-reads
-use Rattle.lines.proofs.put_bytes.Reads as put-bytes-reads
-use Rattle.lines.proofs.put_fields.Reads as put-fields-reads
 
 sub-room : tie.Need-sub-room
 sub-room c = search needs
@@ -25,10 +20,14 @@ add-size-2 : tie.Need-add-size-2
 add-size-2 c = search needs
 
 returns : tie.Need-returns
-returns c = puts-none (omega (arith, length-parts (c .before .before .before .before .before .before .args .head .now) (c .before .before .before .before .before .before .args .name .now) (numbered (c .before .before .before .before .before .before .args .numbers .now)) (10 ∷ [])))
+returns c =
+    let a = c .before .before .before .before .before .before .args in
+    puts-none (omega (arith, length-parts (a .head .now) (a .name .now) (numbered (a .numbers .now)) (10 ∷ [])))
 
 returns-2 : tie.Need-returns-2
-returns-2 c = puts-none (omega (arith, length-parts (c .before .before .before .before .before .before .before .args .head .now) (c .before .before .before .before .before .before .before .args .name .now) (numbered (c .before .before .before .before .before .before .before .args .numbers .now)) (10 ∷ [])))
+returns-2 c =
+    let a = c .before .before .before .before .before .before .before .args in
+    puts-none (omega (arith, length-parts (a .head .now) (a .name .now) (numbered (a .numbers .now)) (10 ∷ [])))
 
 put-bytes-requires : tie.Need-put-bytes-requires
 put-bytes-requires c κs = search needs
@@ -49,7 +48,14 @@ same-length : tie.Need-same-length
 same-length c = search needs
 
 returns-3 : tie.Need-returns-3
-returns-3 c = puts-parts (omega arith) (c .before .before .before .before .before .before .before .before .before .before .before .before .before .before .before .put-bytes .ensures) (c .before .before .before .before .before .before .before .before .before .before .before .put-bytes2 .ensures) (c .before .before .before .before .before .before .before .put-fields .ensures) (c .before .before .put-bytes3 .ensures)
+returns-3 c =
+    let written = c .before .before .before .before .before .before .before .before .before .before .before in
+    puts-parts
+    (omega arith)
+    (written .before .before .before .before .put-bytes .ensures)
+    (written .put-bytes2 .ensures)
+    (c .before .before .before .before .before .before .before .put-fields .ensures)
+    (c .before .before .put-bytes3 .ensures)
 
 pub put-line-spec : {M : Type 1} → statement M
 put-line-spec =
