@@ -1,0 +1,4 @@
+-- The listing, from the bytes of the texts to its lines.
+pub mod Texts
+pub mod Listing
+pub mod Cases
