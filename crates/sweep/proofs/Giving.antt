@@ -7,6 +7,9 @@ use Prim.Native.Nat.{ℕ, _≤_}
 use native.Mathlib.Omega.{arith}
 use lib.Dec.{ltb}
 use lib.ListN.{length, length-map}
+use types.Run.{OneOf, miss}
+use denote.Enum.Declared.{tagOf}
+use Rattle.rules.proofs.Stage.{the-type}
 use Rattle.lists.specs.Lists.{filter, All}
 use Rattle.rules.specs.declared.Base.{Base}
 use Rattle.rules.specs.declared.End.{End}
@@ -47,7 +50,7 @@ use Rattle.sweep.specs.declared.Given.{Given}
 use Rattle.sweep.specs.declared.Opened.{Opened}
 use Rattle.sweep.specs.View.{headsOf, runWith, leftBy, runOf, heldOf, overOf}
 use Rattle.sweep.specs.Settle.{drawnTo, endedBy, runBy, Going, Kept, Lent, lent, Settles, Drawable, DrawsAs}
-use Rattle.sweep.specs.Give.{lensOf, rightOf, givenOf, openedBy, Gives, Gated, Underway, Answerable, AnswersAs, OpensAs}
+use Rattle.sweep.specs.Give.{lensOf, rightOf, givenOf, openedBy, Gives, Gated, Underway, Answerable, AnswersAs, OpensAs, OpenedBy, OpenedAs}
 use Rattle.sweep.proofs.ViewLaws.{over-view}
 use Rattle.sweep.proofs.Drawing.{kept-trans, fair-kept, ended-going}
 
@@ -59,7 +62,23 @@ opens s r n h l u e f k i = record { same = i ∙ ap (λ (x : Run). runWith r (h
 pub placed-by : (s : Cols) (r : Run) (h : Heads) → h ≡ headsOf r → Placed s (r .streams) (r .next) (r .from) (r .to) → Placed s (h .streams) (h .next) (h .from) (h .to)
 placed-by s r h e p = subst (λ (x : Heads). Placed s (x .streams) (x .next) (x .from) (x .to)) (sym e) p
 
+-- by how the run stands
+pub opened-first : (s : Cols) (r : Run) (o : Opened) → r .stage ≡ Fresh → OpensAs s r o → OpenedAs s r o
+opened-first s r o i k = subst (λ (t : Stage). OpenedBy t s r o) (sym i) k
+
+pub opened-after : (s : Cols) (r : Run) (p : Base) → r .stage ≡ After p → OpenedAs s r (record { run = r; wrong = check.Fine })
+opened-after s r p i = subst (λ (t : Stage). OpenedBy t s r (record { run = r; wrong = check.Fine })) (sym i) refl
+
+pub opened-over : (s : Cols) (r : Run) (e : End) → r .stage ≡ Over e → OpenedAs s r (record { run = r; wrong = check.Fine })
+opened-over s r e i = subst (λ (t : Stage). OpenedBy t s r (record { run = r; wrong = check.Fine })) (sym i) refl
+
 -- ---- a run that goes on
+
+-- neither of the first two variants is the third
+pub told-going : (t : Stage) → OneOf (0 ∷ 1 ∷ []) (tagOf the-type t) → Going t
+told-going Fresh k = tt
+told-going (After p) k = tt
+told-going (Over e) k = miss (0 ∷ 1 ∷ []) 2 tt k
 
 pub fresh-going : (r : Run) → r .stage ≡ Fresh → Going (r .stage)
 fresh-going r i = subst Going (sym i) tt
@@ -315,3 +334,33 @@ module _ (s : Cols) (lengths : List ℕ) (r : Run) (b : Base) (l : Lent) where
               streams = a .streams;
               rows = a .rows;
             })
+
+    -- ---- at any base
+
+    module _ (shaped : Shaped (headsOf r)) (goes : Going (r .stage)) (o : Opened) (opened-as : OpenedAs s r o) where
+      at-stage : (t : Stage) → r .stage ≡ t → OpenedBy t s r o
+      at-stage t i = subst (λ (x : Stage). OpenedBy x s r o) i opened-as
+
+      pub opened-answerable : o .wrong ≡ check.Fine → Answerable s (o .run) l
+      opened-answerable fine = go (r .stage) refl
+        where
+          go : (t : Stage) → r .stage ≡ t → Answerable s (o .run) l
+          go Fresh i = first-answerable i shaped o (at-stage Fresh i) fine
+          go (After p) i = subst (λ (u : Run). Answerable s u l) (sym (ap (λ (x : Opened). x .run) (at-stage (After p) i))) (answerable r goes (fits .placed) refl)
+          go (Over e) i = absurd (subst Going i goes)
+
+      pub opened-wrong : (e : End) → o .wrong ≡ check.Wrong e → (g : Given) → g ≡ record { run = overOf r e; answer = answer.Ended e } → Gives s lengths r b l g l
+      opened-wrong e w g h = go (r .stage) refl
+        where
+          go : (t : Stage) → r .stage ≡ t → Gives s lengths r b l g l
+          go Fresh i = first-wrong i shaped o (at-stage Fresh i) e w g h
+          go (After p) i = let z : check.Wrong e ≡ check.Fine = sym w ∙ ap (λ (x : Opened). x .wrong) (at-stage (After p) i) in let y : _≡_ {A = ℕ} 0 1 = cc in absurd (omega arith)
+          go (Over x) i = absurd (subst Going i goes)
+
+      pub opened-so : o .wrong ≡ check.Fine → (g : Given) (l′ : Lent) → AnswersAs s (o .run) b l g l′ → Gives s lengths r b l g l′
+      opened-so fine g l′ a = go (r .stage) refl
+        where
+          go : (t : Stage) → r .stage ≡ t → Gives s lengths r b l g l′
+          go Fresh i = first-so i shaped o (at-stage Fresh i) fine g l′ a
+          go (After p) i = further-so (record { last = p; is = i }) g l′ (subst (λ (u : Run). AnswersAs s u b l g l′) (ap (λ (x : Opened). x .run) (at-stage (After p) i)) a)
+          go (Over x) i = absurd (subst Going i goes)

@@ -14,6 +14,7 @@ use Rattle.rules.specs.Call.{refused, pulling, give}
 use Rattle.rules.specs.Call as rules
 use Rattle.heads.specs.declared.Heads.{Heads}
 use Rattle.heads.specs.declared.Loaded.{Loaded}
+use Rattle.heads.specs.declared.Check.the-variants as check
 use Rattle.heads.specs.View.{Cols}
 use Rattle.heads.specs.Move.{Placed}
 use Rattle.heads.specs.Load.{loadTo, loadedOf}
@@ -85,3 +86,12 @@ AnswersAs s r b l g l′ =
 pub record OpensAs (s : Cols) (r : Run) (o : Opened) : Type 0 where
   pub same : o .run ≡ runWith r (headsOf (o .run)) (r .ring) (r .stage)
   pub loads : _≡_ {A = Loaded} (record { heads = headsOf (o .run); wrong = o .wrong }) (loadedOf s (r .chroms) (headsOf r))
+
+abbrev pub OpenedBy : Stage → Cols → Run → Opened → Type 0
+OpenedBy Fresh s r o = OpensAs s r o
+OpenedBy (After p) s r o = o ≡ record { run = r; wrong = check.Fine }
+OpenedBy (Over e) s r o = o ≡ record { run = r; wrong = check.Fine }
+
+-- the same at any base: a run that has its heads keeps them
+abbrev pub OpenedAs : Cols → Run → Opened → Type 0
+OpenedAs s r o = OpenedBy (r .stage) s r o

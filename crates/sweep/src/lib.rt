@@ -23,7 +23,7 @@ ghost use Rattle.heads.specs.View.{cols};
 ghost use Rattle.queue.specs.Ring.{cells, Fair};
 ghost use Rattle.sweep.specs.View.{headsOf, runWith, overOf};
 ghost use Rattle.heads.specs.Move.{Placed};
-ghost use Rattle.sweep.specs.Give.{Gives, Gated, Underway, Answerable, AnswersAs, OpensAs};
+ghost use Rattle.sweep.specs.Give.{Gives, Answerable, AnswersAs, OpensAs, OpenedAs};
 ghost use Rattle.sweep.specs.Settle.{lent, Keeps, Drawable, DrawsAs};
 
 // A run: of each stream its head's chromosome, start, stop and row, whether it has ended, the place of the row behind its head in the
@@ -354,92 +354,23 @@ impl Run {
         )
     }
 
-    // The first base: the heads are loaded, and the first fault ends the run.
-    fn first(
-        self,
-        gate: Gate,
-        b: Base,
-        chrom: &[u64],
-        start: &[u64],
-        stop: &[u64],
-        lengths: &[u64],
-        qstream: &mut [u64],
-        qrow: &mut [u64],
-        qstart: &mut [u64],
-        qstop: &mut [u64],
-        streams: &mut [u64],
-        rows: &mut [u64],
-    ) -> Given
-        requires { ⌜ (self .stage ≡ Stage.Fresh) × Gated (cols (now chrom) (now start) (now stop)) (now lengths) self b (lent (cells (now qstream) (now qrow) (now qstart) (now qstop)) (now streams) (now rows)) gate ⌝ }
-        ensures { λ g. ⌜ Gives (cols (now (chrom .entry)) (now (start .entry)) (now (stop .entry))) (now (lengths .entry)) self b
-            (lent (cells (now (qstream .entry)) (now (qrow .entry)) (now (qstart .entry)) (now (qstop .entry))) (now (streams .entry)) (now (rows .entry))) g
-            (lent (cells (now (qstream .exit)) (now (qrow .exit)) (now (qstart .exit)) (now (qstop .exit))) (now (streams .exit)) (now (rows .exit))) ⌝ }
+    // The run with its heads loaded: at the first base they are read.
+    fn opened(self, chrom: &[u64], start: &[u64], stop: &[u64]) -> Opened
+        requires { ⌜ Placed (cols (now chrom) (now start) (now stop)) (self .streams) (self .next) (self .from) (self .to) ⌝ }
+        ensures { λ o. ⌜ OpenedAs (cols (now (chrom .entry)) (now (start .entry)) (now (stop .entry))) self o ⌝ }
     {
-        if let Gate::Shut(x) = gate {
-            return Given {
+        let stage = self.stage;
+        match stage {
+            Stage::Fresh => self.load(chrom, start, stop),
+            Stage::After(p) => Opened {
                 run: self,
-                answer: Answer::Refused(x),
-            };
-        }
-        let o = self.load(chrom, start, stop);
-        let w = o.wrong;
-        let u = o.run;
-        match w {
-            Check::Wrong(e) => self.over(e),
-            Check::Fine => u.answer(
-                b,
-                chrom,
-                start,
-                stop,
-                qstream,
-                qrow,
-                qstart,
-                qstop,
-                streams,
-                rows,
-            ),
-        }
-    }
-
-    // A base after the first.
-    fn further(
-        self,
-        gate: Gate,
-        b: Base,
-        chrom: &[u64],
-        start: &[u64],
-        stop: &[u64],
-        lengths: &[u64],
-        qstream: &mut [u64],
-        qrow: &mut [u64],
-        qstart: &mut [u64],
-        qstop: &mut [u64],
-        streams: &mut [u64],
-        rows: &mut [u64],
-    ) -> Given
-        requires { ⌜ Underway self × Gated (cols (now chrom) (now start) (now stop)) (now lengths) self b (lent (cells (now qstream) (now qrow) (now qstart) (now qstop)) (now streams) (now rows)) gate ⌝ }
-        ensures { λ g. ⌜ Gives (cols (now (chrom .entry)) (now (start .entry)) (now (stop .entry))) (now (lengths .entry)) self b
-            (lent (cells (now (qstream .entry)) (now (qrow .entry)) (now (qstart .entry)) (now (qstop .entry))) (now (streams .entry)) (now (rows .entry))) g
-            (lent (cells (now (qstream .exit)) (now (qrow .exit)) (now (qstart .exit)) (now (qstop .exit))) (now (streams .exit)) (now (rows .exit))) ⌝ }
-    {
-        if let Gate::Shut(x) = gate {
-            return Given {
+                wrong: Check::Fine,
+            },
+            Stage::Over(e) => Opened {
                 run: self,
-                answer: Answer::Refused(x),
-            };
+                wrong: Check::Fine,
+            },
         }
-        self.answer(
-            b,
-            chrom,
-            start,
-            stop,
-            qstream,
-            qrow,
-            qstart,
-            qstop,
-            streams,
-            rows,
-        )
     }
 
     // Gives a base to the run. Lent are the streams' columns, the chromosomes' lengths, the queue's memory and the answer columns.
@@ -491,39 +422,35 @@ impl Run {
             qrow,
             b,
         );
-        match stage {
-            Stage::Fresh => self.first(
-                gate,
-                b,
-                chrom,
-                start,
-                stop,
-                lengths,
-                qstream,
-                qrow,
-                qstart,
-                qstop,
-                streams,
-                rows,
-            ),
-            Stage::After(p) => self.further(
-                gate,
-                b,
-                chrom,
-                start,
-                stop,
-                lengths,
-                qstream,
-                qrow,
-                qstart,
-                qstop,
-                streams,
-                rows,
-            ),
-            Stage::Over(e) => Given {
+        if let Stage::Over(e) = stage {
+            return Given {
                 run: self,
                 answer: Answer::Ended(e),
-            },
+            };
+        }
+        if let Gate::Shut(x) = gate {
+            return Given {
+                run: self,
+                answer: Answer::Refused(x),
+            };
+        }
+        let o = self.opened(chrom, start, stop);
+        let w = o.wrong;
+        let u = o.run;
+        match w {
+            Check::Wrong(e) => self.over(e),
+            Check::Fine => u.answer(
+                b,
+                chrom,
+                start,
+                stop,
+                qstream,
+                qrow,
+                qstart,
+                qstop,
+                streams,
+                rows,
+            ),
         }
     }
 }
