@@ -1,0 +1,266 @@
+// A run begins, and a base is given to it; what comes is written.
+ghost use Prim.Native.Nat.{_≤_};
+use crate::cases::Plan;
+use crate::put;
+use crate::say;
+use rules::Answer;
+use rules::Base;
+use rules::End;
+use rules::Offer;
+use rules::Refusal;
+use rules::Unbegun;
+use sweep::Begins;
+use sweep::Run;
+
+// What stands in an answer row before a base.
+pub const MARK: u64 = 7777777;
+
+fn least(a: usize, b: usize) -> usize
+    ensures { λ r. ⌜ (r ≤ a) × (r ≤ b) ⌝ }
+{
+    if a < b { a } else { b }
+}
+
+// The first slots of a column, as many as asked for or as there are.
+pub fn front(s: &[u64], n: usize) -> &[u64] {
+    let k = least(n, s.len());
+    &s[0..k]
+}
+
+pub fn places(s: &[usize], n: usize) -> &[usize] {
+    let k = least(n, s.len());
+    &s[0..k]
+}
+
+// The slots of a column from a place on, as many as asked for or as there are.
+pub fn part(s: &mut [u64], from: usize, n: usize) -> &mut [u64] {
+    let a = least(from, s.len());
+    let k = least(n, s.len() - a);
+    &mut s[a..a + k]
+}
+
+// The number at a place of a column, 0 past the end.
+pub fn at(s: &[u64], i: usize) -> u64 {
+    if i < s.len() { s[i] } else { 0 }
+}
+
+// A stream and a row of it.
+fn show_pair(stream: u64, row: u64) {
+    put(b" ");
+    say(stream);
+    put(b"/");
+    say(row);
+}
+
+// The first n answer rows.
+fn show_rows(n: usize, streams: &[u64], rows: &[u64]) {
+    let mut i: usize = 0;
+    while i < n {
+        show_pair(at(streams, i), at(rows, i));
+        i += 1;
+    }
+}
+
+// How many answer rows from number n on are as they were.
+pub fn kept(n: usize, streams: &[u64], rows: &[u64]) -> u64 {
+    let mut count: u64 = 0;
+    let mut i = n;
+    while i < streams.len() {
+        if (at(streams, i) == MARK) & (at(rows, i) == MARK) {
+            count = numerals::more(count);
+        }
+        i += 1;
+    }
+    count
+}
+
+// The place offered.
+pub fn show_offer(o: Offer) {
+    match o {
+        Offer::Nothing => put(b", no place"),
+        Offer::Upto(p) => {
+            let c = p.chrom;
+            put(b", place ");
+            say(c.0);
+            put(b" ");
+            say(p.stop);
+        }
+    }
+}
+
+// The number of a refusal.
+fn refusal_number(x: Refusal) -> u64 {
+    match x {
+        Refusal::Sizes => 1,
+        Refusal::Beyond => 3,
+        Refusal::Unlisted => 4,
+        Refusal::Unordered => 5,
+        Refusal::Reversed => 6,
+    }
+}
+
+// What ended the run: its number, for 7 and 8 stream and row.
+fn show_end(e: End) {
+    match e {
+        End::Faulty(s, row) => {
+            put(b"7 at");
+            show_pair(s.0, row);
+        }
+        End::Unsorted(s, row) => {
+            put(b"8 at");
+            show_pair(s.0, row);
+        }
+        End::NoRoom => put(b"9"),
+        End::NoRows => put(b"10"),
+    }
+}
+
+pub fn show_kept(n: u64) {
+    put(b", kept ");
+    say(n);
+}
+
+// A refusal, and the end of a run: no answer row is written.
+pub fn show_refused(x: Refusal, streams: &[u64], rows: &[u64]) {
+    put(b": refused ");
+    say(refusal_number(x));
+    show_kept(kept(0, streams, rows));
+}
+
+pub fn show_ended(e: End, streams: &[u64], rows: &[u64]) {
+    put(b": ended ");
+    show_end(e);
+    show_kept(kept(0, streams, rows));
+}
+
+// What a base got.
+fn show(a: Answer, streams: &[u64], rows: &[u64]) {
+    match a {
+        Answer::Found(n, o) => {
+            put(b": found ");
+            say(n as u64);
+            show_rows(n, streams, rows);
+            show_offer(o);
+            show_kept(kept(n, streams, rows));
+        }
+        Answer::Refused(x) => show_refused(x, streams, rows),
+        Answer::Ended(e) => show_ended(e, streams, rows),
+    }
+}
+
+// A base is given to a run.
+pub fn give(
+    run: Run,
+    lens: [usize; 12],
+    b: Base,
+    memory: usize,
+    chrom: &[u64],
+    start: &[u64],
+    stop: &[u64],
+    qstream: &mut [u64],
+    qrow: &mut [u64],
+    qstart: &mut [u64],
+    qstop: &mut [u64],
+) -> Run {
+    let mut lengths = [18446744073709551615u64; 257];
+    lengths[0] = 1000;
+    let mut streams = [MARK; 80];
+    let mut rows = [MARK; 80];
+    let g = run.give(
+        b,
+        front(chrom, lens[0]),
+        front(start, lens[1]),
+        front(stop, lens[2]),
+        front(&lengths, lens[3]),
+        part(qstream, memory, lens[4]),
+        part(qrow, memory, lens[5]),
+        part(qstart, memory, lens[6]),
+        part(qstop, memory, lens[7]),
+        part(&mut streams, 0, lens[8]),
+        part(&mut rows, 0, lens[9]),
+    );
+    let answer = g.answer;
+    show(answer, front(&streams, lens[8]), front(&rows, lens[9]));
+    g.run
+}
+
+// Whether a run begins.
+pub fn show_start(b: Begins) {
+    match b {
+        Begins::Begun => put(b": begun"),
+        Begins::Refused(x) => match x {
+            Unbegun::Sizes => put(b": refused 1"),
+            Unbegun::Names => put(b": refused 2"),
+        },
+    }
+}
+
+// Where the names begin in the text: `one`, `two`, and from byte 6 on as many bytes as the number of the name less 1.
+fn name_starts() -> [usize; 257] {
+    let mut from = [6usize; 257];
+    from[0] = 0;
+    from[1] = 3;
+    from
+}
+
+fn name_ends() -> [usize; 257] {
+    let mut to = [3usize; 257];
+    let mut k: usize = 1;
+    while k < 257 {
+        to[k] = k + 5;
+        k += 1;
+    }
+    to
+}
+
+// One name stands elsewhere.
+fn with_odd(names: [usize; 257], k: usize, place: usize) -> [usize; 257] {
+    let mut ns = names;
+    if k < 257 {
+        ns[k] = place;
+    }
+    ns
+}
+
+// The text of the names.
+fn name_text() -> [u8; 300] {
+    let mut text = [b'x'; 300];
+    text[0] = b'o';
+    text[1] = b'n';
+    text[2] = b'e';
+    text[3] = b't';
+    text[4] = b'w';
+    text[5] = b'o';
+    text
+}
+
+// A run begins.
+pub fn begin(
+    p: Plan,
+    room: usize,
+    lens: [usize; 12],
+    chrom: &[u64],
+    start: &[u64],
+    stop: &[u64],
+) -> Run {
+    let from = with_odd(name_starts(), p.odd, p.odd_from);
+    let to = with_odd(name_ends(), p.odd, p.odd_to);
+    let text = name_text();
+    let rows_from = p.from;
+    let rows_to = p.to;
+    let s = Run::start(
+        p.streams,
+        rows_from,
+        rows_to,
+        room,
+        &text,
+        places(&from, lens[10]),
+        places(&to, lens[11]),
+        front(chrom, lens[0]),
+        front(start, lens[1]),
+        front(stop, lens[2]),
+    );
+    let begins = s.begins;
+    show_start(begins);
+    s.run
+}
