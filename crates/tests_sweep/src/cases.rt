@@ -198,22 +198,40 @@ fn write(s: &mut [u64], at: usize, v: u64) {
     }
 }
 
-// A row of the columns is written.
-fn put_row(l: Line, at: usize, chrom: &mut [u64], start: &mut [u64], stop: &mut [u64]) {
-    write(chrom, at, l.a);
-    write(start, at, l.b);
-    write(stop, at, l.c);
+// A row of the columns is written, the last of so many.
+pub fn put_row(
+    l: Line,
+    b: Bench,
+    chrom: &mut [u64; 64],
+    start: &mut [u64; 64],
+    stop: &mut [u64; 64],
+) {
+    let p = b.plan;
+    let rows = p.rows;
+    if l.letter != b'r' {
+        return;
+    }
+    if rows == 0 {
+        return;
+    }
+    write(chrom, rows - 1, l.a);
+    write(start, rows - 1, l.b);
+    write(stop, rows - 1, l.c);
 }
 
 // A slot of the queue is written.
-fn put_slot(
+pub fn put_slot(
     l: Line,
-    memory: usize,
-    qstream: &mut [u64],
-    qrow: &mut [u64],
-    qstart: &mut [u64],
-    qstop: &mut [u64],
+    b: Bench,
+    qstream: &mut [u64; 128],
+    qrow: &mut [u64; 128],
+    qstart: &mut [u64; 128],
+    qstop: &mut [u64; 128],
 ) {
+    let memory = b.memory;
+    if l.letter != b'q' {
+        return;
+    }
     if 64 < memory {
         return;
     }
@@ -224,56 +242,12 @@ fn put_slot(
     write(qstop, at, l.e);
 }
 
-// The run after a line that writes a row or a slot, lets a run begin, gives it a base, or overwrites something of it.
-fn act(
-    l: Line,
-    at: usize,
-    p: Plan,
-    s: Side,
-    memory: usize,
-    chrom: &mut [u64],
-    start: &mut [u64],
-    stop: &mut [u64],
-    qstream: &mut [u64],
-    qrow: &mut [u64],
-    qstart: &mut [u64],
-    qstop: &mut [u64],
-) -> Run {
-    let letter = l.letter;
-    let run = s.run;
-    let lens = s.lens;
-    match letter {
-        b'r' => {
-            put_row(l, at, chrom, start, stop);
-            run
-        }
-        b'q' => {
-            put_slot(l, memory, qstream, qrow, qstart, qstop);
-            run
-        }
-        b'g' | b'h' => given::begin(p, l.a as usize, lens, chrom, start, stop),
-        b'b' => {
-            let b = Base {
-                chrom: Chrom(l.a),
-                start: l.b,
-                stop: l.c,
-            };
-            given::give(
-                run,
-                lens,
-                b,
-                memory,
-                chrom,
-                start,
-                stop,
-                qstream,
-                qrow,
-                qstart,
-                qstop,
-            )
-        }
-        _ => tamper::after(run, l),
+// Whether a line lets a run begin.
+fn is_start(letter: u8) -> bool {
+    if letter == b'g' {
+        return true;
     }
+    letter == b'h'
 }
 
 impl Bench {
@@ -313,54 +287,82 @@ impl Bench {
         }
     }
 
-    // The bench after a line.
-    pub fn play(
-        self,
-        l: Line,
-        chrom: &mut [u64],
-        start: &mut [u64],
-        stop: &mut [u64],
-        qstream: &mut [u64],
-        qrow: &mut [u64],
-        qstart: &mut [u64],
-        qstop: &mut [u64],
-    ) -> Bench {
-        let b = self.set_for(l);
-        let before = b.plan;
-        let here = b.here;
-        let there = b.there;
-        let memory = b.memory;
-        let plan = before.after(l);
-        let lent = here.lens;
-        let lens = lens_after(lent, plan, l);
-        let run = here.run;
-        let side = Side {
+    // The bench with another run in use.
+    fn with_run(self, run: Run) -> Bench {
+        let mut b = self;
+        let side = b.here;
+        let lens = side.lens;
+        let here = Side {
             run: run,
             lens: lens,
         };
-        let after = act(
-            l,
-            before.rows,
-            plan,
-            side,
-            memory,
-            chrom,
-            start,
-            stop,
-            qstream,
-            qrow,
-            qstart,
-            qstop,
-        );
-        let now = Side {
-            run: after,
+        b.here = here;
+        b
+    }
+
+    // The bench after a line, but for the columns and for what is given to a run.
+    pub fn after(self, l: Line) -> Bench {
+        let b = self.set_for(l);
+        let before = b.plan;
+        let side = b.here;
+        let there = b.there;
+        let plan = before.after(l);
+        let lent = side.lens;
+        let lens = lens_after(lent, plan, l);
+        let old = side.run;
+        let run = tamper::after(old, l);
+        let here = Side {
+            run: run,
             lens: lens,
         };
         Bench {
             plan: plan,
-            here: now,
+            here: here,
             there: there,
-            memory: memory,
+            memory: b.memory,
         }
+    }
+
+    // A run begins or is given a base, where a line says so.
+    pub fn act(
+        self,
+        l: Line,
+        chrom: &[u64; 64],
+        start: &[u64; 64],
+        stop: &[u64; 64],
+        qstream: &mut [u64; 128],
+        qrow: &mut [u64; 128],
+        qstart: &mut [u64; 128],
+        qstop: &mut [u64; 128],
+    ) -> Bench {
+        let plan = self.plan;
+        let side = self.here;
+        let lens = side.lens;
+        let run = side.run;
+        let letter = l.letter;
+        if letter == b'b' {
+            let b = Base {
+                chrom: Chrom(l.a),
+                start: l.b,
+                stop: l.c,
+            };
+            return self.with_run(given::give(
+                run,
+                lens,
+                b,
+                self.memory,
+                chrom,
+                start,
+                stop,
+                qstream,
+                qrow,
+                qstart,
+                qstop,
+            ));
+        }
+        if is_start(letter) {
+            return self.with_run(given::begin(plan, l.a as usize, lens, chrom, start, stop));
+        }
+        self
     }
 }

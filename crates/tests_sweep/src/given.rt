@@ -10,6 +10,7 @@ use rules::Offer;
 use rules::Refusal;
 use rules::Unbegun;
 use sweep::Begins;
+use sweep::Given;
 use sweep::Run;
 
 // What stands in an answer row before a base.
@@ -148,8 +149,40 @@ fn show(a: Answer, streams: &[u64], rows: &[u64]) {
     }
 }
 
-// A base is given to a run.
-pub fn give(
+// A base is given to a run, with the slots of the queue's columns from a place on.
+fn give_part(
+    run: Run,
+    lens: [usize; 12],
+    b: Base,
+    memory: usize,
+    chrom: &[u64],
+    start: &[u64],
+    stop: &[u64],
+    lengths: &[u64],
+    qstream: &mut [u64],
+    qrow: &mut [u64],
+    qstart: &mut [u64],
+    qstop: &mut [u64],
+    streams: &mut [u64],
+    rows: &mut [u64],
+) -> Given {
+    run.give(
+        b,
+        chrom,
+        start,
+        stop,
+        lengths,
+        part(qstream, memory, lens[4]),
+        part(qrow, memory, lens[5]),
+        part(qstart, memory, lens[6]),
+        part(qstop, memory, lens[7]),
+        streams,
+        rows,
+    )
+}
+
+// A base is given to a run, with so many slots of the lengths and of the answer columns, and what it got is written.
+fn give_marked(
     run: Run,
     lens: [usize; 12],
     b: Base,
@@ -166,22 +199,54 @@ pub fn give(
     lengths[0] = 1000;
     let mut streams = [MARK; 80];
     let mut rows = [MARK; 80];
-    let g = run.give(
+    let g = give_part(
+        run,
+        lens,
         b,
-        front(chrom, lens[0]),
-        front(start, lens[1]),
-        front(stop, lens[2]),
+        memory,
+        chrom,
+        start,
+        stop,
         front(&lengths, lens[3]),
-        part(qstream, memory, lens[4]),
-        part(qrow, memory, lens[5]),
-        part(qstart, memory, lens[6]),
-        part(qstop, memory, lens[7]),
+        qstream,
+        qrow,
+        qstart,
+        qstop,
         part(&mut streams, 0, lens[8]),
         part(&mut rows, 0, lens[9]),
     );
     let answer = g.answer;
     show(answer, front(&streams, lens[8]), front(&rows, lens[9]));
     g.run
+}
+
+// A base is given to a run, with so many slots of each column.
+pub fn give(
+    run: Run,
+    lens: [usize; 12],
+    b: Base,
+    memory: usize,
+    chrom: &[u64],
+    start: &[u64],
+    stop: &[u64],
+    qstream: &mut [u64],
+    qrow: &mut [u64],
+    qstart: &mut [u64],
+    qstop: &mut [u64],
+) -> Run {
+    give_marked(
+        run,
+        lens,
+        b,
+        memory,
+        front(chrom, lens[0]),
+        front(start, lens[1]),
+        front(stop, lens[2]),
+        qstream,
+        qrow,
+        qstart,
+        qstop,
+    )
 }
 
 // Whether a run begins.

@@ -12,7 +12,7 @@
 //   o 1                  the other run and its queue's memory
 //   q SLOT STREAM ROW START STOP, x FIELD K VALUE, a CHROM START STOP, z N STREAM ROW
 //                        a slot of the queue, a field of the run, its last base, its end are overwritten
-ghost use Prim.Native.Nat.{_<_, _≤_};
+ghost use Prim.Native.Nat.{_<_};
 ghost use lib.ListN.{length};
 
 mod cases;
@@ -21,6 +21,8 @@ mod large;
 mod tamper;
 
 use cases::Bench;
+use cases::put_row;
+use cases::put_slot;
 use libc::STDOUT_FILENO;
 use numerals::line_end;
 use numerals::number;
@@ -63,9 +65,10 @@ fn line_at(text: &[u8], at: usize) -> Line
 }
 
 // A line is written as it stands, up to its end.
-fn show_line(text: &[u8], at: usize, end: usize)
-    requires { ⌜ (at < end) × (end ≤ length (now text)) ⌝ }
+fn show_line(text: &[u8], at: usize)
+    requires { ⌜ at < length (now text) ⌝ }
 {
+    let end = line_end(text, at);
     put(&text[at..end - 1]);
 }
 
@@ -86,20 +89,29 @@ fn play_all(text: &[u8]) {
     let mut at: usize = 0;
     while at < text.len() {
         let line = line_at(text, at);
-        let end = line_end(text, at);
-        show_line(text, at, end);
-        bench = bench.play(
+        show_line(text, at);
+        bench = bench.after(line);
+        put_row(line, bench, &mut chrom, &mut start, &mut stop);
+        put_slot(
             line,
-            &mut chrom,
-            &mut start,
-            &mut stop,
+            bench,
+            &mut qstream,
+            &mut qrow,
+            &mut qstart,
+            &mut qstop,
+        );
+        bench = bench.act(
+            line,
+            &chrom,
+            &start,
+            &stop,
             &mut qstream,
             &mut qrow,
             &mut qstart,
             &mut qstop,
         );
         end_line();
-        at = end;
+        at = line_end(text, at);
     }
 }
 
