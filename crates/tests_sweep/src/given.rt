@@ -1,8 +1,14 @@
 // A run begins, and a base is given to it; what comes is written.
-ghost use Prim.Native.Nat.{_≤_};
 use crate::cases::Plan;
 use crate::put;
 use crate::say;
+use harness::at;
+use harness::front;
+use harness::name_ends;
+use harness::name_starts;
+use harness::name_text;
+use harness::part;
+use harness::places;
 use rules::Answer;
 use rules::Base;
 use rules::End;
@@ -15,35 +21,6 @@ use sweep::Run;
 
 // What stands in an answer row before a base.
 pub const MARK: u64 = 7777777;
-
-fn least(a: usize, b: usize) -> usize
-    ensures { λ r. ⌜ (r ≤ a) × (r ≤ b) ⌝ }
-{
-    if a < b { a } else { b }
-}
-
-// The first slots of a column, as many as asked for or as there are.
-pub fn front(s: &[u64], n: usize) -> &[u64] {
-    let k = least(n, s.len());
-    &s[0..k]
-}
-
-pub fn places(s: &[usize], n: usize) -> &[usize] {
-    let k = least(n, s.len());
-    &s[0..k]
-}
-
-// The slots of a column from a place on, as many as asked for or as there are.
-pub fn part(s: &mut [u64], from: usize, n: usize) -> &mut [u64] {
-    let a = least(from, s.len());
-    let k = least(n, s.len() - a);
-    &mut s[a..a + k]
-}
-
-// The number at a place of a column, 0 past the end.
-pub fn at(s: &[u64], i: usize) -> u64 {
-    if i < s.len() { s[i] } else { 0 }
-}
 
 // A stream and a row of it.
 fn show_pair(stream: u64, row: u64) {
@@ -68,7 +45,7 @@ pub fn kept(n: usize, streams: &[u64], rows: &[u64]) -> u64 {
     let mut i = n;
     while i < streams.len() {
         if (at(streams, i) == MARK) & (at(rows, i) == MARK) {
-            count = numerals::more(count);
+            count = harness::more(count);
         }
         i += 1;
     }
@@ -260,24 +237,6 @@ pub fn show_start(b: Begins) {
     }
 }
 
-// Where the names begin in the text: `one`, `two`, and from byte 6 on as many bytes as the number of the name less 1.
-fn name_starts() -> [usize; 257] {
-    let mut from = [6usize; 257];
-    from[0] = 0;
-    from[1] = 3;
-    from
-}
-
-fn name_ends() -> [usize; 257] {
-    let mut to = [3usize; 257];
-    let mut k: usize = 1;
-    while k < 257 {
-        to[k] = k + 5;
-        k += 1;
-    }
-    to
-}
-
 // One name stands elsewhere.
 fn with_odd(names: [usize; 257], k: usize, place: usize) -> [usize; 257] {
     let mut ns = names;
@@ -285,18 +244,6 @@ fn with_odd(names: [usize; 257], k: usize, place: usize) -> [usize; 257] {
         ns[k] = place;
     }
     ns
-}
-
-// The text of the names.
-fn name_text() -> [u8; 300] {
-    let mut text = [b'x'; 300];
-    text[0] = b'o';
-    text[1] = b'n';
-    text[2] = b'e';
-    text[3] = b't';
-    text[4] = b'w';
-    text[5] = b'o';
-    text
 }
 
 // A run begins.

@@ -1,10 +1,7 @@
 // The largest room: as many records as it holds, one more, and a room that is one larger.
 use crate::end_line;
 use crate::given::MARK;
-use crate::given::at;
-use crate::given::front;
 use crate::given::kept;
-use crate::given::part;
 use crate::given::show_ended;
 use crate::given::show_kept;
 use crate::given::show_offer;
@@ -13,6 +10,8 @@ use crate::given::show_start;
 use crate::put;
 use crate::say;
 use crate::tamper::with_size;
+use harness::at;
+use harness::part;
 use rules::Answer;
 use rules::Base;
 use rules::Chrom;
@@ -25,7 +24,7 @@ fn in_order(n: usize, streams: &[u64], rows: &[u64]) -> u64 {
     let mut i: usize = 0;
     while i < n {
         if (at(streams, i) == 0) & (at(rows, i) == i as u64) {
-            count = numerals::more(count);
+            count = harness::more(count);
         }
         i += 1;
     }

@@ -23,9 +23,9 @@ mod tamper;
 use cases::Bench;
 use cases::put_row;
 use cases::put_slot;
+use harness::line_end;
+use harness::number;
 use libc::STDOUT_FILENO;
-use numerals::line_end;
-use numerals::number;
 
 // A line: its letter, and the numbers behind it, 0 where there is none.
 pub struct Line {

@@ -1,10 +1,10 @@
--- `tests_sweep::given::name_ends` meets its contract: safe, and the loop counts up to the last name. Assumes nothing.
+-- `harness::names::name_ends` meets its contract: safe, and the loop counts up to the last name. Assumes nothing.
 use Prim.Native.Nat.{_-_, _≤_}
 use lib.ListN.{length}
 use mathlib.Core.Path.{_≡_}
 use borrow.Author.Needs.{needs}
-use Rattle.tests_sweep.proofs.given.name_ends.Statement.{statement}
-use Rattle.tests_sweep.proofs.given.name_ends.Tie as tie
+use Rattle.harness.proofs.names.name_ends.Statement.{statement}
+use Rattle.harness.proofs.names.name_ends.Tie as tie
 
 abbrev Inv-loop : tie.InvT-loop
 Inv-loop to₀ k₀ to k =

@@ -1,4 +1,15 @@
-// Numbers parted by single spaces in the lines of a text: what the programs read their jobs from.
+// What the programs that replay and play jobs share: numbers parted by single spaces in the lines of a text, parts of columns, and names of
+// chromosomes.
+mod columns;
+mod names;
+
+pub use columns::at;
+pub use columns::front;
+pub use columns::part;
+pub use columns::places;
+pub use names::name_ends;
+pub use names::name_starts;
+pub use names::name_text;
 ghost use Prim.Native.Nat.{_<_, _≤_};
 ghost use lib.ListN.{length};
 
