@@ -1,73 +1,18 @@
 // Replays a recorded list of fragments: reads `parts.txt`, makes each job's fragments anew and compares them with those recorded.
 // Prints how many jobs there are and how many differ, and the line of the first that differs.
 // A line: A B base_start base_stop n, n records, F, then for each fragment: present bstart bstop k, k pieces; `#` starts a comment line.
-ghost use Prim.Native.Nat.{_<_, _≤_};
-ghost use lib.ListN.{length};
+use harness::Num;
+use harness::at;
+use harness::is_end;
+use harness::line_end;
+use harness::matches;
+use harness::more;
+use harness::nothing;
+use harness::number;
 use libc::STDOUT_FILENO;
 use parts::Answer;
 use parts::Choice;
 use parts::Span;
-
-// What was read: a value, the place behind it, and whether it is there.
-struct Num {
-    value: u64,
-    next: usize,
-    good: bool,
-}
-
-// Nothing that can be read.
-fn nothing() -> Num {
-    Num {
-        value: 0,
-        next: 0,
-        good: false,
-    }
-}
-
-fn wide(x: u8) -> u64 {
-    x as u64
-}
-
-// The number that starts at a place, and the place behind it and one space.
-fn number(text: &[u8], from: usize) -> Num {
-    let mut v: u64 = 0;
-    let mut i = from;
-    while i < text.len() {
-        let b = text[i];
-        if b == b' ' {
-            return Num {
-                value: v,
-                next: i + 1,
-                good: from < i,
-            };
-        }
-        if b < b'0' {
-            return Num {
-                value: v,
-                next: i,
-                good: from < i,
-            };
-        }
-        if b'9' < b {
-            return nothing();
-        }
-        if 1844674407370955161 < v {
-            return nothing();
-        }
-        let w = v * 10;
-        let d = wide(b - b'0');
-        if 18446744073709551615 - w < d {
-            return nothing();
-        }
-        v = w + d;
-        i += 1;
-    }
-    Num {
-        value: v,
-        next: i,
-        good: from < i,
-    }
-}
 
 // n records from a place on, into two columns; the place behind them.
 fn records(text: &[u8], from: usize, n: usize, starts: &mut [u64], stops: &mut [u64]) -> Num {
@@ -95,20 +40,6 @@ fn records(text: &[u8], from: usize, n: usize, starts: &mut [u64], stops: &mut [
         next: at,
         good: true,
     }
-}
-
-// The number at a place of a column, 0 past the end.
-fn at(s: &[u64], i: usize) -> u64 {
-    if i < s.len() { s[i] } else { 0 }
-}
-
-// Whether a number stands at a place of the text, and the place behind it.
-fn matches(text: &[u8], from: usize, value: u64) -> Num {
-    let r = number(text, from);
-    if r.value != value {
-        return nothing();
-    }
-    r
 }
 
 // Whether the pieces of a range stand at a place of the text, and the place behind them.
@@ -171,15 +102,6 @@ fn same_range(
         return nothing();
     }
     same_pieces(text, k.next, first as usize, end as usize, pstart, pstop)
-}
-
-// Whether a line ends at a place.
-fn is_end(text: &[u8], from: usize) -> bool {
-    if from < text.len() {
-        text[from] == b'\n'
-    } else {
-        true
-    }
 }
 
 // Whether n fragments are those that stand from a place to the line's end.
@@ -310,31 +232,11 @@ fn is_same_job(text: &[u8], from: usize) -> bool {
     )
 }
 
-// The place behind the line that stands at a place.
-fn line_end(text: &[u8], from: usize) -> usize
-    requires { ⌜ from < length (now text) ⌝ }
-    ensures { λ r. ⌜ (from < r) × (r ≤ length (now (text .entry))) ⌝ }
-{
-    let mut i = from;
-    while i + 1 < text.len() {
-        if text[i] == b'\n' {
-            return i + 1;
-        }
-        i += 1;
-    }
-    i + 1
-}
-
 // How the replay stands: jobs, differences, and the line of the first that differs.
 struct Tally {
     jobs: u64,
     differ: u64,
     first: u64,
-}
-
-// One more, short of the largest number.
-fn more(x: u64) -> u64 {
-    if x < 18446744073709551615 { x + 1 } else { x }
 }
 
 // The tally with one job more.

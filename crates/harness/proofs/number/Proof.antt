@@ -1,10 +1,10 @@
--- `replay_parts::number` meets its contract: safe: the value stays below 2 ^ 64. Assumes nothing.
+-- `harness::number` meets its contract: safe: the value stays below 2 ^ 64. Assumes nothing.
 use native.Mathlib.Omega.{arith}
 use lib.ListN.{length}
 use Prim.Native.Nat.{ℕ, _+_, _-_, _≤_, _<_}
 use borrow.Author.Needs.{needs}
-use Rattle.replay_parts.proofs.number.Statement.{statement}
-use Rattle.replay_parts.proofs.number.Tie as tie
+use Rattle.harness.proofs.number.Statement.{statement}
+use Rattle.harness.proofs.number.Tie as tie
 
 abbrev Inv-loop : tie.InvT-loop
 Inv-loop text from v₀ i₀ v i =

@@ -1,10 +1,10 @@
--- `replay_parts::line_end` meets its contract: the place grows, and stays within the text. Assumes nothing.
+-- `harness::line_end` meets its contract: the place grows, and stays within the text. Assumes nothing.
 use native.Mathlib.Omega.{arith}
 use lib.ListN.{length}
 use Prim.Native.Nat.{ℕ, _+_, _-_, _≤_, _<_}
 use borrow.Author.Needs.{needs}
-use Rattle.replay_parts.proofs.line_end.Statement.{statement}
-use Rattle.replay_parts.proofs.line_end.Tie as tie
+use Rattle.harness.proofs.line_end.Statement.{statement}
+use Rattle.harness.proofs.line_end.Tie as tie
 
 abbrev Inv-loop : tie.InvT-loop
 Inv-loop text from i₀ i =

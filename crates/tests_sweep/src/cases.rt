@@ -1,0 +1,368 @@
+// What a case has laid and lent, and what each command does to it.
+ghost use Prim.Native.Nat.{_≤_};
+use crate::Line;
+use crate::given;
+use crate::tamper;
+use rules::Base;
+use rules::Chrom;
+use rules::Stage;
+use sweep::Run;
+
+// The streams' ranges in the columns and the rows laid so far, the number of chromosomes, and where one name stands in the text.
+pub struct Plan {
+    pub streams: usize,
+    pub from: [usize; 8],
+    pub to: [usize; 8],
+    pub rows: usize,
+    pub chroms: usize,
+    pub odd: usize,
+    pub odd_from: usize,
+    pub odd_to: usize,
+}
+
+// A run, and how many slots of each column are lent to it: chromosomes, starts and stops of the rows, the chromosomes' lengths, the queue's
+// four, the answer's two, where the names begin and end.
+pub struct Side {
+    pub run: Run,
+    pub lens: [usize; 12],
+}
+
+// What a case has: the run in use, the other one, and where the memory of the one in use begins in the queue's columns.
+pub struct Bench {
+    pub plan: Plan,
+    pub here: Side,
+    pub there: Side,
+    pub memory: usize,
+}
+
+// Less than a slice can hold, so that one more fits.
+fn small(x: u64) -> usize
+    ensures { λ r. ⌜ r ≤ 65537 ⌝ }
+{
+    if x <= 65537 {
+        return x as usize;
+    }
+    65537
+}
+
+// No run.
+fn no_run() -> Run {
+    Run {
+        chrom: [0; 8],
+        start: [0; 8],
+        stop: [0; 8],
+        row: [0; 8],
+        ended: [true; 8],
+        next: [0; 8],
+        from: [0; 8],
+        to: [0; 8],
+        streams: 0,
+        chroms: 0,
+        ring: queue::Ring::empty(0, Chrom(0)),
+        stage: Stage::Fresh,
+    }
+}
+
+fn no_side() -> Side {
+    Side {
+        run: no_run(),
+        lens: [0; 12],
+    }
+}
+
+impl Plan {
+    // Two chromosomes, no stream, all names where they are due.
+    fn fresh() -> Plan {
+        Plan {
+            streams: 0,
+            from: [0; 8],
+            to: [0; 8],
+            rows: 0,
+            chroms: 2,
+            odd: 257,
+            odd_from: 0,
+            odd_to: 0,
+        }
+    }
+
+    // One more stream.
+    fn with_stream(self) -> Plan {
+        let mut p = self;
+        let k = p.streams;
+        if k < 8 {
+            p.from[k] = p.rows;
+            p.to[k] = p.rows;
+        }
+        if k < 100 {
+            p.streams = k + 1;
+        }
+        p
+    }
+
+    // One more row of the last stream.
+    fn with_row(self) -> Plan {
+        let mut p = self;
+        let k = p.streams;
+        let n = p.rows;
+        if 64 <= n {
+            return p;
+        }
+        p.rows = n + 1;
+        if 8 < k {
+            return p;
+        }
+        if 0 < k {
+            p.to[k - 1] = n + 1;
+        }
+        p
+    }
+
+    // A stream with another range.
+    fn with_range(self, k: usize, from: usize, to: usize) -> Plan {
+        let mut p = self;
+        if k < 8 {
+            p.from[k] = from;
+            p.to[k] = to;
+        }
+        p
+    }
+
+    // A name that stands elsewhere.
+    fn with_name(self, k: usize, from: usize, to: usize) -> Plan {
+        let mut p = self;
+        p.odd = k;
+        p.odd_from = from;
+        p.odd_to = to;
+        p
+    }
+
+    // Another number of chromosomes.
+    fn with_chroms(self, n: usize) -> Plan {
+        let mut p = self;
+        p.chroms = n;
+        p
+    }
+
+    // The plan after a line.
+    fn after(self, l: Line) -> Plan {
+        let a = small(l.a);
+        let b = l.b as usize;
+        let c = l.c as usize;
+        let letter = l.letter;
+        match letter {
+            b'=' => Plan::fresh(),
+            b'c' => self.with_chroms(a),
+            b'n' => self.with_name(a, b, c),
+            b's' => self.with_stream(),
+            b'r' => self.with_row(),
+            b't' => self.with_range(a, b, c),
+            _ => self,
+        }
+    }
+}
+
+// As many slots as a room asks, and one answer row more.
+fn lens_for(p: Plan, room: usize) -> [usize; 12]
+    requires { ⌜ room ≤ 65537 ⌝ }
+{
+    let n = p.rows;
+    let k = p.chroms;
+    [n, n, n, k, room, room, room, room, room + 1, room + 1, k, k]
+}
+
+// One column with another number of slots.
+fn with_len(lens: [usize; 12], k: usize, n: usize) -> [usize; 12] {
+    let mut ls = lens;
+    if k < 12 {
+        ls[k] = n;
+    }
+    ls
+}
+
+// What is lent after a line.
+fn lens_after(lens: [usize; 12], p: Plan, l: Line) -> [usize; 12] {
+    let a = small(l.a);
+    let b = small(l.b);
+    let letter = l.letter;
+    match letter {
+        b'l' | b'g' => lens_for(p, a),
+        b'w' => with_len(lens, a, b),
+        _ => lens,
+    }
+}
+
+// A slot is written, where there is one.
+fn write(s: &mut [u64], at: usize, v: u64) {
+    if at < s.len() {
+        s[at] = v;
+    }
+}
+
+// A row of the columns is written, the last of so many.
+pub fn put_row(
+    l: Line,
+    b: Bench,
+    chrom: &mut [u64; 64],
+    start: &mut [u64; 64],
+    stop: &mut [u64; 64],
+) {
+    let p = b.plan;
+    let rows = p.rows;
+    if l.letter != b'r' {
+        return;
+    }
+    if rows == 0 {
+        return;
+    }
+    write(chrom, rows - 1, l.a);
+    write(start, rows - 1, l.b);
+    write(stop, rows - 1, l.c);
+}
+
+// A slot of the queue is written.
+pub fn put_slot(
+    l: Line,
+    b: Bench,
+    qstream: &mut [u64; 128],
+    qrow: &mut [u64; 128],
+    qstart: &mut [u64; 128],
+    qstop: &mut [u64; 128],
+) {
+    let memory = b.memory;
+    if l.letter != b'q' {
+        return;
+    }
+    if 64 < memory {
+        return;
+    }
+    let at = memory + small(l.a);
+    write(qstream, at, l.b);
+    write(qrow, at, l.c);
+    write(qstart, at, l.d);
+    write(qstop, at, l.e);
+}
+
+// Whether a line lets a run begin.
+fn is_start(letter: u8) -> bool {
+    if letter == b'g' {
+        return true;
+    }
+    letter == b'h'
+}
+
+impl Bench {
+    pub fn fresh() -> Bench {
+        Bench {
+            plan: Plan::fresh(),
+            here: no_side(),
+            there: no_side(),
+            memory: 0,
+        }
+    }
+
+    // The other run and its memory.
+    fn turned(self) -> Bench {
+        let plan = self.plan;
+        let here = self.here;
+        let there = self.there;
+        let mut memory: usize = 64;
+        if self.memory == 64 {
+            memory = 0;
+        }
+        Bench {
+            plan: plan,
+            here: there,
+            there: here,
+            memory: memory,
+        }
+    }
+
+    // What a line of a case and of its two runs leaves.
+    fn set_for(self, l: Line) -> Bench {
+        let letter = l.letter;
+        match letter {
+            b'=' => Bench::fresh(),
+            b'o' => self.turned(),
+            _ => self,
+        }
+    }
+
+    // The bench with another run in use.
+    fn with_run(self, run: Run) -> Bench {
+        let mut b = self;
+        let side = b.here;
+        let lens = side.lens;
+        let here = Side {
+            run: run,
+            lens: lens,
+        };
+        b.here = here;
+        b
+    }
+
+    // The bench after a line, but for the columns and for what is given to a run.
+    pub fn after(self, l: Line) -> Bench {
+        let b = self.set_for(l);
+        let before = b.plan;
+        let side = b.here;
+        let there = b.there;
+        let plan = before.after(l);
+        let lent = side.lens;
+        let lens = lens_after(lent, plan, l);
+        let old = side.run;
+        let run = tamper::after(old, l);
+        let here = Side {
+            run: run,
+            lens: lens,
+        };
+        Bench {
+            plan: plan,
+            here: here,
+            there: there,
+            memory: b.memory,
+        }
+    }
+
+    // A run begins or is given a base, where a line says so.
+    pub fn act(
+        self,
+        l: Line,
+        chrom: &[u64; 64],
+        start: &[u64; 64],
+        stop: &[u64; 64],
+        qstream: &mut [u64; 128],
+        qrow: &mut [u64; 128],
+        qstart: &mut [u64; 128],
+        qstop: &mut [u64; 128],
+    ) -> Bench {
+        let plan = self.plan;
+        let side = self.here;
+        let lens = side.lens;
+        let run = side.run;
+        let letter = l.letter;
+        if letter == b'b' {
+            let b = Base {
+                chrom: Chrom(l.a),
+                start: l.b,
+                stop: l.c,
+            };
+            return self.with_run(given::give(
+                run,
+                lens,
+                b,
+                self.memory,
+                chrom,
+                start,
+                stop,
+                qstream,
+                qrow,
+                qstart,
+                qstop,
+            ));
+        }
+        if is_start(letter) {
+            return self.with_run(given::begin(plan, l.a as usize, lens, chrom, start, stop));
+        }
+        self
+    }
+}
