@@ -50,9 +50,20 @@ use Rattle.sweep.specs.declared.Given.{Given}
 use Rattle.sweep.specs.declared.Opened.{Opened}
 use Rattle.sweep.specs.View.{headsOf, runWith, leftBy, runOf, heldOf, overOf}
 use Rattle.sweep.specs.Settle.{drawnTo, endedBy, runBy, Going, Kept, Lent, lent, Settles, Drawable, DrawsAs}
-use Rattle.sweep.specs.Give.{lensOf, rightOf, givenOf, openedBy, Gives, Gated, Underway, Answerable, AnswersAs, OpensAs, OpenedBy, OpenedAs}
+use Rattle.sweep.specs.Give.{lensOf, rightOf, givenOf, openedBy, Gives, Answerable, AnswersAs, OpensAs, OpenedBy, OpenedAs}
 use Rattle.sweep.proofs.ViewLaws.{over-view}
 use Rattle.sweep.proofs.Drawing.{kept-trans, fair-kept, ended-going}
+
+-- ---- how a base stands
+
+-- what is answered by the tests that come before the pull
+abbrev pub Gated : Cols → List ℕ → Run → Base → Lent → Gate → Type 0
+Gated s lengths r b l g = g ≡ gateOf (rightOf s lengths r l) (judge (lengthsOf lengths) (lastOf (r .stage)) b)
+
+-- a run that has accepted a base
+pub record Underway (r : Run) : Type 0 where
+  pub last : Base
+  pub is : r .stage ≡ After last
 
 -- ---- loading
 

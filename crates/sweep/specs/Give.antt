@@ -9,7 +9,6 @@ use Rattle.rules.specs.declared.End.{End}
 use Rattle.rules.specs.declared.Refusal.{Refusal}
 use Rattle.rules.specs.declared.Stage.{Stage}
 use Rattle.rules.specs.declared.Stage.the-variants.{Fresh, After, Over}
-use Rattle.rules.specs.Bases.{judge}
 use Rattle.rules.specs.Call.{refused, pulling, give}
 use Rattle.rules.specs.Call as rules
 use Rattle.heads.specs.declared.Heads.{Heads}
@@ -20,9 +19,8 @@ use Rattle.heads.specs.Move.{Placed}
 use Rattle.heads.specs.Load.{loadTo, loadedOf}
 use Rattle.queue.specs.Ring.{Fair}
 use Rattle.admit.specs.declared.Lens.{Lens}
-use Rattle.admit.specs.declared.Gate.{Gate}
 use Rattle.admit.specs.Right.{right}
-use Rattle.admit.specs.Gates.{lengthsOf, lastOf, gateOf}
+use Rattle.admit.specs.Gates.{lengthsOf}
 use Rattle.sweep.specs.declared.Run.{Run}
 use Rattle.sweep.specs.declared.Given.{Given}
 use Rattle.sweep.specs.declared.Opened.{Opened}
@@ -60,15 +58,6 @@ pub record Gives (s : Cols) (lengths : List ℕ) (r : Run) (b : Base) (l : Lent)
   pub again : (e : End) → r .stage ≡ Over e → l′ ≡ l
 
 -- ---- its parts
-
--- what is answered by the tests that come before the pull
-abbrev pub Gated : Cols → List ℕ → Run → Base → Lent → Gate → Type 0
-Gated s lengths r b l g = g ≡ gateOf (rightOf s lengths r l) (judge (lengthsOf lengths) (lastOf (r .stage)) b)
-
--- a run that has accepted a base
-pub record Underway (r : Run) : Type 0 where
-  pub last : Base
-  pub is : r .stage ≡ After last
 
 -- a run whose heads are loaded is given a base that is accepted
 pub record Answerable (s : Cols) (r : Run) (l : Lent) : Type 0 where

@@ -1,3 +1,4 @@
+-- `is_awaited` meets its contract.
 use Rattle.offers.proofs.is_awaited.Statement.{statement}
 use Rattle.offers.proofs.is_awaited.Tie as tie
 use Rattle.offers.proofs.is_awaited.Reads as reads

@@ -1,3 +1,4 @@
+-- `offer_after` meets its contract: one law a way out.
 use borrow.Author.Needs.{needs}
 use Rattle.offers.proofs.offer_after.Statement.{statement}
 use Rattle.offers.proofs.offer_after.Tie as tie

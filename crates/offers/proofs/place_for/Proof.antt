@@ -1,3 +1,4 @@
+-- `place_for` meets its contract: one law a way out.
 use borrow.Author.Needs.{needs}
 use Rattle.offers.proofs.place_for.Statement.{statement}
 use Rattle.offers.proofs.place_for.Tie as tie

@@ -1,3 +1,4 @@
+-- `report` meets its contract, from what `front`, `offer_after` and `scan` say.
 use borrow.Author.Needs.{needs}
 use Rattle.offers.proofs.report.Statement.{statement}
 use Rattle.offers.proofs.report.Tie as tie

@@ -1,3 +1,4 @@
+-- `keep` meets its contract: a record is dropped or queued.
 use borrow.Author.Needs.{needs}
 use Rattle.sweep.proofs.keep.Statement.{statement}
 use Rattle.sweep.proofs.keep.Tie as tie

@@ -1,3 +1,4 @@
+-- `Run::answer` meets its contract, from what the clearing and the pull say.
 use borrow.Author.Needs.{needs}
 use Rattle.sweep.proofs.Run.answer.Statement.{statement}
 use Rattle.sweep.proofs.Run.answer.Tie as tie

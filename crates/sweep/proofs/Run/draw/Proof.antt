@@ -1,3 +1,4 @@
+-- `Run::draw` meets its contract. The loop's invariant: what is left and what waits give the same pull as at its start; each turn leaves one row less.
 use Rattle.sweep.proofs.Run.draw.Statement.{statement}
 use Rattle.sweep.proofs.Run.draw.Tie as tie
 use Rattle.sweep.proofs.Run.draw.Reads as reads

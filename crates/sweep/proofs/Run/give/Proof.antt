@@ -1,3 +1,4 @@
+-- `Run::give` meets its contract: one law a way out.
 use borrow.Author.Needs.{needs}
 use Rattle.sweep.proofs.Run.give.Statement.{statement}
 use Rattle.sweep.proofs.Run.give.Tie as tie

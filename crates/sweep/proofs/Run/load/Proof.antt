@@ -1,3 +1,4 @@
+-- `Run::load` meets its contract, from what `Heads::load` says.
 use borrow.Author.Needs.{needs}
 use Rattle.sweep.proofs.Run.load.Statement.{statement}
 use Rattle.sweep.proofs.Run.load.Tie as tie

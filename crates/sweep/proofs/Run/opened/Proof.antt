@@ -1,3 +1,4 @@
+-- `Run::opened` meets its contract, by how the run stands.
 use borrow.Author.Needs.{needs}
 use Rattle.sweep.proofs.Run.opened.Statement.{statement}
 use Rattle.sweep.proofs.Run.opened.Tie as tie

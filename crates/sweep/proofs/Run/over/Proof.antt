@@ -1,3 +1,4 @@
+-- `Run::over` meets its contract.
 use borrow.Author.Needs.{needs}
 use Rattle.sweep.proofs.Run.over.Statement.{statement}
 use Rattle.sweep.proofs.Run.over.Tie as tie
