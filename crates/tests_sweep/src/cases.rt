@@ -1,6 +1,8 @@
 // What a case has laid and lent, and what each command does to it.
 ghost use Prim.Native.Nat.{_≤_};
 use crate::Line;
+use crate::QUEUES;
+use crate::SLOTS;
 use crate::given;
 use crate::tamper;
 use rules::Base;
@@ -8,12 +10,17 @@ use rules::Chrom;
 use rules::Stage;
 use sweep::Run;
 
-// The streams' ranges in the columns and the rows laid so far, the number of chromosomes, and where one name stands in the text.
+// Where the memory of the second run begins in the queue's columns.
+const SECOND: usize = 65537;
+
+// The streams' ranges in the columns, the rows that are laid and how many were laid before the last line, the number of chromosomes, and where
+// one name stands in the text.
 pub struct Plan {
     pub streams: usize,
     pub from: [usize; 8],
     pub to: [usize; 8],
     pub rows: usize,
+    pub before: usize,
     pub chroms: usize,
     pub odd: usize,
     pub odd_from: usize,
@@ -43,6 +50,16 @@ fn small(x: u64) -> usize
         return x as usize;
     }
     65537
+}
+
+// How many rows a line lays: one where it does not say.
+fn row_count(n: u64) -> usize
+    ensures { λ r. ⌜ r ≤ 65537 ⌝ }
+{
+    if n == 0 {
+        return 1;
+    }
+    small(n)
 }
 
 // No run.
@@ -78,6 +95,7 @@ impl Plan {
             from: [0; 8],
             to: [0; 8],
             rows: 0,
+            before: 0,
             chroms: 2,
             odd: 257,
             odd_from: 0,
@@ -99,20 +117,23 @@ impl Plan {
         p
     }
 
-    // One more row of the last stream.
-    fn with_row(self) -> Plan {
+    // So many rows more of the last stream.
+    fn with_rows(self, n: usize) -> Plan
+        requires { ⌜ n ≤ 65537 ⌝ }
+    {
         let mut p = self;
         let k = p.streams;
-        let n = p.rows;
-        if 64 <= n {
+        let at = p.rows;
+        p.before = at;
+        if SLOTS - n < at {
             return p;
         }
-        p.rows = n + 1;
+        p.rows = at + n;
         if 8 < k {
             return p;
         }
         if 0 < k {
-            p.to[k - 1] = n + 1;
+            p.to[k - 1] = at + n;
         }
         p
     }
@@ -154,7 +175,7 @@ impl Plan {
             b'c' => self.with_chroms(a),
             b'n' => self.with_name(a, b, c),
             b's' => self.with_stream(),
-            b'r' => self.with_row(),
+            b'r' => self.with_rows(row_count(l.d)),
             b't' => self.with_range(a, b, c),
             _ => self,
         }
@@ -198,41 +219,48 @@ fn write(s: &mut [u64], at: usize, v: u64) {
     }
 }
 
-// A row of the columns is written, the last of so many.
-pub fn put_row(
+// The slots from one place up to another are written, where there are any.
+fn fill(s: &mut [u64; SLOTS], from: usize, to: usize, v: u64) {
+    let mut i = from;
+    while i < to {
+        write(s, i, v);
+        i += 1;
+    }
+}
+
+// The rows that a line lays are written to the columns.
+pub fn put_rows(
     l: Line,
     b: Bench,
-    chrom: &mut [u64; 64],
-    start: &mut [u64; 64],
-    stop: &mut [u64; 64],
+    chrom: &mut [u64; SLOTS],
+    start: &mut [u64; SLOTS],
+    stop: &mut [u64; SLOTS],
 ) {
     let p = b.plan;
-    let rows = p.rows;
+    let from = p.before;
+    let to = p.rows;
     if l.letter != b'r' {
         return;
     }
-    if rows == 0 {
-        return;
-    }
-    write(chrom, rows - 1, l.a);
-    write(start, rows - 1, l.b);
-    write(stop, rows - 1, l.c);
+    fill(chrom, from, to, l.a);
+    fill(start, from, to, l.b);
+    fill(stop, from, to, l.c);
 }
 
 // A slot of the queue is written.
 pub fn put_slot(
     l: Line,
     b: Bench,
-    qstream: &mut [u64; 128],
-    qrow: &mut [u64; 128],
-    qstart: &mut [u64; 128],
-    qstop: &mut [u64; 128],
+    qstream: &mut [u64; QUEUES],
+    qrow: &mut [u64; QUEUES],
+    qstart: &mut [u64; QUEUES],
+    qstop: &mut [u64; QUEUES],
 ) {
     let memory = b.memory;
     if l.letter != b'q' {
         return;
     }
-    if 64 < memory {
+    if SECOND < memory {
         return;
     }
     let at = memory + small(l.a);
@@ -265,8 +293,8 @@ impl Bench {
         let plan = self.plan;
         let here = self.here;
         let there = self.there;
-        let mut memory: usize = 64;
-        if self.memory == 64 {
+        let mut memory = SECOND;
+        if self.memory == SECOND {
             memory = 0;
         }
         Bench {
@@ -327,13 +355,13 @@ impl Bench {
     pub fn act(
         self,
         l: Line,
-        chrom: &[u64; 64],
-        start: &[u64; 64],
-        stop: &[u64; 64],
-        qstream: &mut [u64; 128],
-        qrow: &mut [u64; 128],
-        qstart: &mut [u64; 128],
-        qstop: &mut [u64; 128],
+        chrom: &[u64; SLOTS],
+        start: &[u64; SLOTS],
+        stop: &[u64; SLOTS],
+        qstream: &mut [u64; QUEUES],
+        qrow: &mut [u64; QUEUES],
+        qstart: &mut [u64; QUEUES],
+        qstop: &mut [u64; QUEUES],
     ) -> Bench {
         let plan = self.plan;
         let side = self.here;

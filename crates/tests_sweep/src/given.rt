@@ -1,9 +1,11 @@
 // A run begins, and a base is given to it; what comes is written.
+use crate::SLOTS;
 use crate::cases::Plan;
 use crate::put;
 use crate::say;
 use harness::at;
 use harness::front;
+use harness::more;
 use harness::name_ends;
 use harness::name_starts;
 use harness::name_text;
@@ -20,7 +22,7 @@ use sweep::Given;
 use sweep::Run;
 
 // What stands in an answer row before a base.
-pub const MARK: u64 = 7777777;
+const MARK: u64 = 7777777;
 
 // A stream and a row of it.
 fn show_pair(stream: u64, row: u64) {
@@ -30,22 +32,34 @@ fn show_pair(stream: u64, row: u64) {
     say(row);
 }
 
-// The first n answer rows.
-fn show_rows(n: usize, streams: &[u64], rows: &[u64]) {
+// The first answer rows of n, sixteen at most.
+fn show_first(n: usize, streams: &[u64], rows: &[u64]) {
     let mut i: usize = 0;
     while i < n {
+        if i == 16 {
+            return;
+        }
         show_pair(at(streams, i), at(rows, i));
         i += 1;
     }
 }
 
-// How many answer rows from number n on are as they were.
-pub fn kept(n: usize, streams: &[u64], rows: &[u64]) -> u64 {
+// The n answer rows, of more than sixteen those and the last.
+fn show_rows(n: usize, streams: &[u64], rows: &[u64]) {
+    show_first(n, streams, rows);
+    if 16 < n {
+        put(b" ..");
+        show_pair(at(streams, n - 1), at(rows, n - 1));
+    }
+}
+
+// How many slots of an answer column, from one place up to another, are as they were.
+fn marks(s: &[u64], from: usize, to: usize) -> u64 {
     let mut count: u64 = 0;
-    let mut i = n;
-    while i < streams.len() {
-        if (at(streams, i) == MARK) & (at(rows, i) == MARK) {
-            count = harness::more(count);
+    let mut i = from;
+    while i < to {
+        if at(s, i) == MARK {
+            count = more(count);
         }
         i += 1;
     }
@@ -53,7 +67,7 @@ pub fn kept(n: usize, streams: &[u64], rows: &[u64]) -> u64 {
 }
 
 // The place offered.
-pub fn show_offer(o: Offer) {
+fn show_offer(o: Offer) {
     match o {
         Offer::Nothing => put(b", no place"),
         Offer::Upto(p) => {
@@ -93,37 +107,41 @@ fn show_end(e: End) {
     }
 }
 
-pub fn show_kept(n: u64) {
+// How many slots of each answer column behind the first n are as they were, of those that were lent.
+fn show_kept(n: usize, lens: [usize; 12], streams: &[u64], rows: &[u64]) {
     put(b", kept ");
-    say(n);
+    say(marks(streams, n, lens[8]));
+    put(b"/");
+    say(marks(rows, n, lens[9]));
 }
 
-// A refusal, and the end of a run: no answer row is written.
-pub fn show_refused(x: Refusal, streams: &[u64], rows: &[u64]) {
-    put(b": refused ");
-    say(refusal_number(x));
-    show_kept(kept(0, streams, rows));
-}
-
-pub fn show_ended(e: End, streams: &[u64], rows: &[u64]) {
-    put(b": ended ");
-    show_end(e);
-    show_kept(kept(0, streams, rows));
-}
-
-// What a base got.
-fn show(a: Answer, streams: &[u64], rows: &[u64]) {
+// What a base got: how many answer rows, the rest by its number.
+fn show_answer(a: Answer, streams: &[u64], rows: &[u64]) -> usize {
     match a {
         Answer::Found(n, o) => {
             put(b": found ");
             say(n as u64);
             show_rows(n, streams, rows);
             show_offer(o);
-            show_kept(kept(n, streams, rows));
+            n
         }
-        Answer::Refused(x) => show_refused(x, streams, rows),
-        Answer::Ended(e) => show_ended(e, streams, rows),
+        Answer::Refused(x) => {
+            put(b": refused ");
+            say(refusal_number(x));
+            0
+        }
+        Answer::Ended(e) => {
+            put(b": ended ");
+            show_end(e);
+            0
+        }
     }
+}
+
+// What a base got, and what it left of the answer columns.
+fn show(a: Answer, lens: [usize; 12], streams: &[u64; SLOTS], rows: &[u64; SLOTS]) {
+    let n = show_answer(a, streams, rows);
+    show_kept(n, lens, streams, rows);
 }
 
 // A base is given to a run, with the slots of the queue's columns from a place on.
@@ -158,7 +176,7 @@ fn give_part(
     )
 }
 
-// A base is given to a run, with so many slots of the lengths and of the answer columns, and what it got is written.
+// A base is given to a run, with so many slots of the answer columns, and what it got is written.
 fn give_marked(
     run: Run,
     lens: [usize; 12],
@@ -167,15 +185,14 @@ fn give_marked(
     chrom: &[u64],
     start: &[u64],
     stop: &[u64],
+    lengths: &[u64],
     qstream: &mut [u64],
     qrow: &mut [u64],
     qstart: &mut [u64],
     qstop: &mut [u64],
 ) -> Run {
-    let mut lengths = [18446744073709551615u64; 257];
-    lengths[0] = 1000;
-    let mut streams = [MARK; 80];
-    let mut rows = [MARK; 80];
+    let mut streams = [MARK; SLOTS];
+    let mut rows = [MARK; SLOTS];
     let g = give_part(
         run,
         lens,
@@ -184,7 +201,7 @@ fn give_marked(
         chrom,
         start,
         stop,
-        front(&lengths, lens[3]),
+        lengths,
         qstream,
         qrow,
         qstart,
@@ -193,7 +210,7 @@ fn give_marked(
         part(&mut rows, 0, lens[9]),
     );
     let answer = g.answer;
-    show(answer, front(&streams, lens[8]), front(&rows, lens[9]));
+    show(answer, lens, &streams, &rows);
     g.run
 }
 
@@ -211,6 +228,8 @@ pub fn give(
     qstart: &mut [u64],
     qstop: &mut [u64],
 ) -> Run {
+    let mut lengths = [18446744073709551615u64; 257];
+    lengths[0] = 1000;
     give_marked(
         run,
         lens,
@@ -219,6 +238,7 @@ pub fn give(
         front(chrom, lens[0]),
         front(start, lens[1]),
         front(stop, lens[2]),
+        front(&lengths, lens[3]),
         qstream,
         qrow,
         qstart,
@@ -227,7 +247,7 @@ pub fn give(
 }
 
 // Whether a run begins.
-pub fn show_start(b: Begins) {
+fn show_start(b: Begins) {
     match b {
         Begins::Begun => put(b": begun"),
         Begins::Refused(x) => match x {

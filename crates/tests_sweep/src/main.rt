@@ -1,31 +1,43 @@
 // Plays cases over the sweep and writes each command with what it got. The cases stand in this folder's `stdin`, a command a line:
-//   = LABEL              a case: two chromosomes, no stream, no run
-//   c N                  N chromosomes: `one` of length 1000, `two`, and further ones of unknown length
-//   n K FROM TO          the name of chromosome K stands from byte FROM up to byte TO of the text of names
-//   s K                  stream K, with no row yet
-//   r CHROM START STOP   a row of the last stream
-//   t K FROM TO          the rows of stream K stand from place FROM up to place TO
-//   l Q                  as much is lent as a room of Q asks, and one answer row more
-//   w COLUMN N           of a column N slots are lent
-//   h Q                  a run begins with room Q; g Q: the same, after l Q
-//   b CHROM START STOP   a base
-//   o 1                  the other run and its queue's memory
-//   q SLOT STREAM ROW START STOP, x FIELD K VALUE, a CHROM START STOP, z N STREAM ROW
-//                        a slot of the queue, a field of the run, its last base, its end are overwritten
+//   = LABEL               a case: two chromosomes, no stream, no run
+//   # TEXT                what the next lines are about
+//   c N                   N chromosomes: `one` of length 1000, `two`, and further ones of unknown length
+//   n K FROM TO           the name of chromosome K stands from byte FROM up to byte TO of the text of names
+//   s K                   stream K, with no row yet
+//   r CHROM START STOP N  a row of the last stream, or N of them
+//   t K FROM TO           the rows of stream K stand from place FROM up to place TO
+//   l Q                   as much is lent as a room of Q asks, and one answer row more
+//   w COLUMN N            of a column N slots are lent: 0 chromosomes, 1 starts, 2 stops, 3 lengths, 4 to 7 the queue's streams, rows, starts and
+//                         stops, 8 and 9 the answer's streams and rows, 10 and 11 where names begin and end
+//   h Q                   a run begins with room Q; g Q: l Q, then h Q
+//   b CHROM START STOP    a base; written are the records, the place offered, and how many slots of the answer columns behind them still hold
+//                         what was put there before
+//   o 1                   the other run and its queue's memory
+//   q SLOT STREAM ROW START STOP
+//                         a slot of the queue is overwritten
+//   x FIELD K VALUE       a field of the run is overwritten, of stream K: 0 its head's chromosome, 1 start, 2 stop, 3 row, 4 whether it has ended,
+//                         5 its next place, 6 where its rows begin, 7 where they end; 8 the number of streams, 9 of chromosomes; of the ring
+//                         10 head, 11 length, 12 room, 13 chromosome
+//   a CHROM START STOP    the run stands as after this base
+//   z N STREAM ROW        the run stands as ended by N
 ghost use Prim.Native.Nat.{_<_};
 ghost use lib.ListN.{length};
 
 mod cases;
 mod given;
-mod large;
 mod tamper;
 
 use cases::Bench;
-use cases::put_row;
+use cases::put_rows;
 use cases::put_slot;
 use harness::line_end;
 use harness::number;
 use libc::STDOUT_FILENO;
+
+// How many slots the columns have, and the queue's columns, which hold the memory of two runs.
+pub const SLOTS: usize = 65538;
+
+pub const QUEUES: usize = 65601;
 
 // A line: its letter, and the numbers behind it, 0 where there is none.
 pub struct Line {
@@ -72,26 +84,26 @@ fn show_line(text: &[u8], at: usize)
     put(&text[at..end - 1]);
 }
 
-pub fn end_line() {
+fn end_line() {
     put(b"\n");
 }
 
 // All cases of a text.
 fn play_all(text: &[u8]) {
-    let mut chrom = [0u64; 64];
-    let mut start = [0u64; 64];
-    let mut stop = [0u64; 64];
-    let mut qstream = [0u64; 128];
-    let mut qrow = [0u64; 128];
-    let mut qstart = [0u64; 128];
-    let mut qstop = [0u64; 128];
+    let mut chrom = [0u64; SLOTS];
+    let mut start = [0u64; SLOTS];
+    let mut stop = [0u64; SLOTS];
+    let mut qstream = [0u64; QUEUES];
+    let mut qrow = [0u64; QUEUES];
+    let mut qstart = [0u64; QUEUES];
+    let mut qstop = [0u64; QUEUES];
     let mut bench = Bench::fresh();
     let mut at: usize = 0;
     while at < text.len() {
         let line = line_at(text, at);
         show_line(text, at);
         bench = bench.after(line);
-        put_row(line, bench, &mut chrom, &mut start, &mut stop);
+        put_rows(line, bench, &mut chrom, &mut start, &mut stop);
         put_slot(
             line,
             bench,
@@ -119,5 +131,4 @@ fn main() {
     let mut buffer = io::large_buffer();
     let n = io::read_full(0, &mut buffer);
     play_all(&buffer[..n]);
-    large::play();
 }

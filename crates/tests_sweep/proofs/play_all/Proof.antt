@@ -27,8 +27,8 @@ show-line-requires c κs = search needs
 after-requires : tie.Need-after-requires Inv-loop μ-loop
 after-requires c κs = search needs
 
-put-row-requires : tie.Need-put-row-requires Inv-loop μ-loop
-put-row-requires c κs = search needs
+put-rows-requires : tie.Need-put-rows-requires Inv-loop μ-loop
+put-rows-requires c κs = search needs
 
 put-slot-requires : tie.Need-put-slot-requires Inv-loop μ-loop
 put-slot-requires c κs = search needs
@@ -62,7 +62,7 @@ play-all-spec =
     line-at-requires
     show-line-requires
     after-requires
-    put-row-requires
+    put-rows-requires
     put-slot-requires
     act-requires
     end-line-requires

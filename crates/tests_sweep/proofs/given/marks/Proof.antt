@@ -1,24 +1,21 @@
--- `tests_sweep::large::in_order` meets its contract: safe, and the loop counts up to n. Assumes nothing.
+-- `tests_sweep::given::marks` meets its contract: safe, and the loop goes through the slots. Assumes nothing.
 use Prim.Native.Nat.{_-_, _≤_}
 use borrow.Author.Needs.{needs}
-use Rattle.tests_sweep.proofs.large.in_order.Statement.{statement}
-use Rattle.tests_sweep.proofs.large.in_order.Tie as tie
+use Rattle.tests_sweep.proofs.given.marks.Statement.{statement}
+use Rattle.tests_sweep.proofs.given.marks.Tie as tie
 
 abbrev Inv-loop : tie.InvT-loop
-Inv-loop n streams rows count₀ i₀ count i =
-    i ≤ n
+Inv-loop s from to count₀ i₀ count i =
+    from ≤ i
 
 abbrev μ-loop : tie.MeasureT-loop
-μ-loop n streams rows count₀ i₀ count i = n - i
+μ-loop s from to count₀ i₀ count i = to - i
 
 loop-holds : tie.Need-loop-holds Inv-loop μ-loop
 loop-holds c = search needs
 
 at-requires : tie.Need-at-requires Inv-loop μ-loop
 at-requires c κs = search needs
-
-at-requires-2 : tie.Need-at-requires-2 Inv-loop μ-loop
-at-requires-2 c κs = search needs
 
 more-requires : tie.Need-more-requires Inv-loop μ-loop
 more-requires c κs = search needs
@@ -35,15 +32,14 @@ loop-again c = search needs
 returns : tie.Need-returns Inv-loop μ-loop
 returns c = search needs
 
-pub in-order-spec : {M : Type 1} → statement M
-in-order-spec =
+pub marks-spec : {M : Type 1} → statement M
+marks-spec =
     tie.close
     (tie.spec
     Inv-loop
     μ-loop
     loop-holds
     at-requires
-    at-requires-2
     more-requires
     add-i
     loop-less

@@ -1,8 +1,8 @@
--- `tests_sweep::given::show_rows` meets its contract: safe, and the loop counts up to n. Assumes nothing.
+-- `tests_sweep::given::show_first` meets its contract: safe, and the loop counts up to n. Assumes nothing.
 use Prim.Native.Nat.{_-_, _≤_}
 use borrow.Author.Needs.{needs}
-use Rattle.tests_sweep.proofs.given.show_rows.Statement.{statement}
-use Rattle.tests_sweep.proofs.given.show_rows.Tie as tie
+use Rattle.tests_sweep.proofs.given.show_first.Statement.{statement}
+use Rattle.tests_sweep.proofs.given.show_first.Tie as tie
 
 abbrev Inv-loop : tie.InvT-loop
 Inv-loop n streams rows i₀ i =
@@ -13,6 +13,9 @@ abbrev μ-loop : tie.MeasureT-loop
 
 loop-holds : tie.Need-loop-holds Inv-loop μ-loop
 loop-holds c = search needs
+
+returns : tie.Need-returns Inv-loop μ-loop
+returns c = search needs
 
 at-requires : tie.Need-at-requires Inv-loop μ-loop
 at-requires c κs = search needs
@@ -32,20 +35,21 @@ loop-less c = search needs
 loop-again : tie.Need-loop-again Inv-loop μ-loop
 loop-again c = search needs
 
-returns : tie.Need-returns Inv-loop μ-loop
-returns c = search needs
+returns-2 : tie.Need-returns-2 Inv-loop μ-loop
+returns-2 c = search needs
 
-pub show-rows-spec : {M : Type 1} → statement M
-show-rows-spec =
+pub show-first-spec : {M : Type 1} → statement M
+show-first-spec =
     tie.close
     (tie.spec
     Inv-loop
     μ-loop
     loop-holds
+    returns
     at-requires
     at-requires-2
     show-pair-requires
     add-i
     loop-less
     loop-again
-    returns)
+    returns-2)
