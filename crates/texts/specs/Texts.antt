@@ -39,16 +39,22 @@ bytesMost = 65536
 
 -- ---- what each text gives
 
--- the entries of the chromosome list, and their names
-abbrev pub entriesOf : Texts → Found Entry
-entriesOf t = readText entryOf rowsMost (t .list)
+-- the entries of a chromosome list, and their names
+abbrev pub entriesIn : List ℕ → Found Entry
+entriesIn list = readText entryOf rowsMost list
+
+abbrev pub namesIn : List ℕ → List (List ℕ)
+namesIn list = map (λ e. part (e .from) (e .to) list) (entriesIn list .rows)
+
+abbrev pub lensIn : List ℕ → List ℕ
+lensIn list = map (λ e. e .len) (entriesIn list .rows)
 
 abbrev pub namesOf : Texts → List (List ℕ)
-namesOf t = map (λ e. part (e .from) (e .to) (t .list)) (entriesOf t .rows)
+namesOf t = namesIn (t .list)
 
--- the rows of a text, "a name not on the list is kept as the number after the last"
-abbrev pub readRows : Texts → List ℕ → Found rows.Row
-readRows t text = readText (rowOf (numberIn (namesOf t))) rowsMost text
+-- the rows of a text, of these names: "a name not on the list is kept as the number after the last"
+abbrev pub rowsIn : List (List ℕ) → List ℕ → Found rows.Row
+rowsIn ns text = readText (rowOf (numberIn ns)) rowsMost text
 
 abbrev pub rowFrom : rows.Row → Row
 rowFrom r = record { chrom = record { 0 = r .chrom }; start = r .start; stop = r .stop }
@@ -56,12 +62,16 @@ rowFrom r = record { chrom = record { 0 = r .chrom }; start = r .start; stop = r
 abbrev pub baseFrom : rows.Row → Base
 baseFrom r = record { chrom = record { 0 = r .chrom }; start = r .start; stop = r .stop }
 
+-- the bases, and the rows of each stream
 abbrev pub basesOf : Texts → List Base
-basesOf t = map baseFrom (readRows t (t .bases) .rows)
+basesOf t = map baseFrom (rowsIn (namesOf t) (t .bases) .rows)
+
+abbrev pub streamsIn : List (List ℕ) → List (List ℕ) → List (List Row)
+streamsIn ns ss = map (λ s. map rowFrom (rowsIn ns s .rows)) ss
 
 -- the job
 abbrev pub jobOf : Texts → Job
-jobOf t = record { lengths = lengthsOf (map (λ e. e .len) (entriesOf t .rows)); streams = map (λ s. map rowFrom (readRows t s .rows)) (t .streams); room = room }
+jobOf t = record { lengths = lengthsOf (lensIn (t .list)); streams = streamsIn (namesOf t) (t .streams); room = room }
 
 -- ---- what is judged before the run
 
@@ -96,16 +106,19 @@ abbrev pub unbegunFault : Option Unbegun → Option Fault
 unbegunFault none = none
 unbegunFault (some x) = some (fault (unbegunNumber x) 0 0)
 
--- the texts of streams from number k on
-abbrev pub streamsFault : Texts → ℕ → List (List ℕ) → Option Fault
-streamsFault t k [] = none
-streamsFault t k (s ∷ ss) = else (foundFault k (readRows t s)) (streamsFault t (suc k) ss)
+-- the list's own: its 11 and 12, then its count and its names, where there are k streams
+abbrev pub listFault : ℕ → List ℕ → Option Fault
+listFault k list = else (foundFault 0 (entriesIn list)) (unbegunFault (refusesStart k (namesIn list) room))
+
+-- the texts of streams from text number k on
+abbrev pub streamsFault : List (List ℕ) → ℕ → List (List ℕ) → Option Fault
+streamsFault ns k [] = none
+streamsFault ns k (s ∷ ss) = else (foundFault k (rowsIn ns s)) (streamsFault ns (suc k) ss)
 
 -- "First 1 for text size or stream count; after the list's 11 and 12, 1 for its count of names, then 2.": then the bases, then the streams
 unfoldable pub faultOf : Texts → Option Fault
 faultOf t =
     else (sizesFault t)
-    (else (foundFault 0 (entriesOf t))
-    (else (unbegunFault (refusesStart (length (t .streams)) (namesOf t) room))
-    (else (foundFault 1 (readRows t (t .bases)))
-    (streamsFault t 2 (t .streams)))))
+    (else (listFault (length (t .streams)) (t .list))
+    (else (foundFault 1 (rowsIn (namesOf t) (t .bases)))
+    (streamsFault (namesOf t) 2 (t .streams))))

@@ -1,0 +1,7 @@
+-- Laws of the texts of a listing.
+pub mod Columns
+pub mod Parting
+pub mod Faults
+pub mod Naming
+pub mod Filling
+pub mod Streaming

@@ -1,0 +1,19 @@
+-- `texts::is_sized` meets its contract. Assumes nothing.
+use Rattle.texts.proofs.Parting.{sized-by}
+use borrow.Author.Needs.{needs}
+use Rattle.texts.proofs.is_sized.Statement.{statement}
+use Rattle.texts.proofs.is_sized.Tie as tie
+use Rattle.texts.proofs.is_sized.Reads as reads
+use Rattle.texts.proofs.is_sized.Lts as lts
+use Rattle.texts.proofs.parts_all.Reads as parts-all-reads
+
+-- src/lib.rt:111:9
+parts-all-requires : tie.Need-parts-all-requires
+parts-all-requires c κs = search needs
+
+-- src/lib.rt:106:1
+returns : tie.Need-returns
+returns c = sized-by _ _ (c .parts-all .ensures)
+
+pub is-sized-spec : {M : Type 1} → statement M
+is-sized-spec = tie.close (tie.spec parts-all-requires returns)
