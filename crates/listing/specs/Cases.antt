@@ -16,7 +16,7 @@ use Rattle.text.specs.Table.{readLines}
 use Rattle.chroms.specs.Entry.{entryOf}
 use Rattle.rows.specs.Row.{rowOf}
 use Rattle.lines.specs.Lines.{spelled, decimal}
-use Rattle.listing.specs.Texts.{Texts, faultOf}
+use Rattle.texts.specs.Texts.{Texts, faultOf}
 use Rattle.listing.specs.Listing.{listing, joined}
 
 -- the texts, and the whole listing

@@ -1,4 +1,3 @@
 -- The listing, from the bytes of the texts to its lines.
-pub mod Texts
 pub mod Listing
 pub mod Cases

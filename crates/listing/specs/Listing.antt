@@ -12,7 +12,7 @@ use Rattle.rules.specs.Rows.{Record}
 use Rattle.rules.specs.Call.{Reply, found, refused, ended}
 use Rattle.rules.specs.Job.{answers}
 use Rattle.lines.specs.Lines.{decimal, line, lineB, lineR, lineX}
-use Rattle.listing.specs.Texts.{Texts, Fault, faultOf, namesOf, basesOf, jobOf}
+use Rattle.texts.specs.Texts.{Texts, Fault, faultOf, namesOf, basesOf, jobOf}
 
 -- "X: refusal, base row from 0; for 7 and 8 stream and row follow."
 abbrev pub lineE : ℕ → ℕ → List ℕ → List ℕ

@@ -5,3 +5,4 @@ pub mod Faults
 pub mod Naming
 pub mod Filling
 pub mod Streaming
+pub mod Reading

@@ -124,9 +124,9 @@ pub record Columns (t : Texts) (r : Read) (from to len : List ℕ) (b s : Cols) 
 
 -- the columns are as long as all that a text may have, those of the streams eight times so
 pub record Rooms (from to len : List ℕ) (b s : Cols) : Type 0 where
-  pub from : length from ≡ rowsMost
-  pub to : length to ≡ rowsMost
-  pub len : length len ≡ rowsMost
+  pub names-from : length from ≡ rowsMost
+  pub names-to : length to ≡ rowsMost
+  pub lengths : length len ≡ rowsMost
   pub base-chrom : length (b .chrom) ≡ rowsMost
   pub base-start : length (b .start) ≡ rowsMost
   pub base-stop : length (b .stop) ≡ rowsMost

@@ -189,7 +189,7 @@ fn read_streams(
 
 // Reads all texts to their columns, and says what is wrong before the run. Given are the texts one behind the other and where each
 // ends; lent are columns for the names, for the bases and, in eight parts, for the streams' rows.
-pub fn read(
+pub fn read_texts(
     bytes: &[u8],
     ends: &[usize],
     from: &mut [usize],
