@@ -21,7 +21,7 @@ use Rattle.rules.specs.Overlap.{taken, live, overlaps}
 use Rattle.rules.specs.Offer.{offer}
 use Rattle.rules.specs.Pull.{Pull, paused, ends, unlessWrong, turn, turns, pull}
 use Rattle.rules.specs.Bases.{judge}
-use Rattle.rules.specs.Call.{Run, Lent, found, refuse, over, end, loading, coming, afterPull, pulling, judged, byStage, give}
+use Rattle.rules.specs.Call.{Run, Lent, Reply, found, refused, ended, refuse, over, end, loading, coming, afterPull, pulling, judged, byStage, give}
 use Rattle.theory.proofs.MergeLaws.{Each, Picks, pick-picks, took-by}
 
 -- a fact of all elements of all lists is one of each list's, by its number
@@ -95,6 +95,38 @@ module _ (P : Record → Type 0) where
     judged-holds true w (some x) = h
     judged-holds true (some e) none = over-holds r e
     judged-holds true none none = pulling-holds
+
+  -- so of a base's records
+  abbrev pub Hits : Reply → Type 0
+  Hits (found l o) = All P l
+  Hits (refused x) = Unit {0}
+  Hits (ended e) = Unit {0}
+
+  module _ (n Q rows : ℕ) (r : Run) (b : Base) (h : Holds r) where
+    after-hits : (p : Pull Record End) → Keeps ahead (next n) NoRoom (taken b) (live b) Q P p → Hits (afterPull rows r b p .reply)
+    after-hits (ends e) k = tt
+    after-hits (paused ss queue) k = go (ltb rows (length (filter (overlaps b) queue)))
+      where
+        go : (u : Bool) → Hits ((cond u (end r NoRows) (record { run = record { left = ss; queue = queue; stage = After b }; reply = found (filter (overlaps b) queue) (offer (coming ss queue) b) })) .reply)
+        go true = tt
+        go false = all-filter (overlaps b) (k .1)
+
+    judged-hits : (u : Bool) (w : Option End) (o : Option Refusal) → Hits ((cond u (judged n Q rows r b w o) (refuse r Sizes)) .reply)
+    judged-hits false w o = tt
+    judged-hits true w (some x) = tt
+    judged-hits true (some e) none = tt
+    judged-hits true none none =
+        after-hits (pull ahead (next n) NoRoom (taken b) (live b) Q (r .left) (filter (live b) (r .queue)))
+        (pull-keeps ahead (next n) NoRoom (taken b) (live b) Q P (r .left) (filter (live b) (r .queue)) (h .0) (all-filter (live b) (h .1)))
+
+  pub give-hits : (lengths : List (Option ℕ)) (Q : ℕ) (l : Lent) (r : Run) (b : Base) → Holds r → Hits (give lengths Q l r b .reply)
+  unfolding give
+  give-hits lengths Q l r b h = go (r .stage)
+    where
+      go : (t : Stage) → Hits (byStage lengths Q l r b t .reply)
+      go Fresh = judged-hits (length lengths) Q (l .rows) r b h (l .right) (loading (length lengths) (r .left)) (judge lengths none b)
+      go (After p) = judged-hits (length lengths) Q (l .rows) r b h (l .right) none (judge lengths (some p) b)
+      go (Over e) = tt
 
   -- whatever is answered
   pub give-holds : (lengths : List (Option ℕ)) (Q : ℕ) (l : Lent) (r : Run) (b : Base) → Holds r → Holds (give lengths Q l r b .run)

@@ -62,7 +62,7 @@ module _ (s : Cols) (lengths : List ℕ) where
     R = runOf s (l .cells) r
 
     -- what fits has no more waiting than there is room for, and as many answer rows
-    right-given : rightOf s lengths r l ≡ true → givenOf s lengths r b l ≡ give (lengthsOf lengths) (r .ring .room) (lending (r .ring .room)) R b
+    pub right-given : rightOf s lengths r l ≡ true → givenOf s lengths r b l ≡ give (lengthsOf lengths) (r .ring .room) (lending (r .ring .room)) R b
     right-given e =
         let f : FitsOf s lengths r l = fits-so r l e in
         ap (λ (u : Bool). give (lengthsOf lengths) (r .ring .room) (record { right = u; rows = length (l .rows) }) R b) e

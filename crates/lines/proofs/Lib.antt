@@ -4,3 +4,4 @@ pub mod Laying
 pub mod Spelling
 pub mod Fields
 pub mod Putting
+pub mod LaidLaws

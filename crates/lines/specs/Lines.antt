@@ -44,10 +44,18 @@ lineB name start stop count = line 66 (name ∷ map decimal (start ∷ stop ∷ 
 abbrev pub lineR : ℕ → ℕ → ℕ → ℕ → List ℕ
 lineR stream row start stop = line 82 (map decimal (stream ∷ row ∷ start ∷ stop ∷ []))
 
--- "X: refusal, base row from 0"; before the run "X, number, text .., rows ahead"
+-- "X: refusal, base row from 0"
 abbrev pub lineX : ℕ → ℕ → List ℕ
 lineX number row = line 88 (map decimal (number ∷ row ∷ []))
 
 -- "for 7 and 8 stream and row follow"
 abbrev pub lineX′ : ℕ → ℕ → ℕ → ℕ → List ℕ
 lineX′ number base stream row = line 88 (map decimal (number ∷ base ∷ stream ∷ row ∷ []))
+
+-- the same of any refusal, by the values that follow
+abbrev pub lineE : ℕ → ℕ → List ℕ → List ℕ
+lineE number base values = line 88 (map decimal (number ∷ base ∷ values))
+
+-- "A fault before the run gives one line: X, number, text [..], rows ahead"
+abbrev pub lineF : ℕ → ℕ → ℕ → List ℕ
+lineF number text ahead = line 88 (map decimal (number ∷ text ∷ ahead ∷ []))

@@ -4,13 +4,20 @@ ghost use mathlib.Core.Path.{_≡_};
 ghost use mathlib.Core.List.{[], _∷_, _++_};
 ghost use Prim.Native.Nat.{_+_, _≤_};
 ghost use lib.ListN.{length};
-ghost use Rattle.lines.specs.Lines.{decimal, numbered, lineB, lineR, lineX, lineX′};
+ghost use Rattle.lines.specs.Lines.{decimal, numbered, lineB, lineR, lineX, lineX′, lineF};
 ghost use Rattle.lines.specs.Put.{Wrote, Puts};
+ghost use Rattle.lines.specs.Laid.{onlyOf};
 
 // Where the next line starts, or that the line did not fit.
 pub enum Put {
     At(usize),
     Full,
+}
+
+// All of several lines stand, and the place behind them; or, 14, those ahead of the first that did not fit, and the place behind those.
+pub enum Laid {
+    Whole(usize),
+    Part(usize),
 }
 
 // How many digits a number has.
@@ -147,4 +154,23 @@ pub fn put_x_row(out: &mut [u8], at: usize, number: u64, base: u64, stream: u64,
 {
     let numbers = [number, base, stream, row];
     put_line(out, at, b"X", b"", &numbers)
+}
+
+// The line of a fault before the run: its number, the text, the rows ahead of it there.
+pub fn put_fault(out: &mut [u8], at: usize, number: u64, text: u64, ahead: u64) -> Put
+    requires { ⌜ at ≤ length (now out) ⌝ }
+    ensures { λ r. ⌜ Puts (now (out .entry)) at (lineF number text ahead) r (now (out .exit)) ⌝ }
+{
+    let numbers = [number, text, ahead];
+    put_line(out, at, b"X", b"", &numbers)
+}
+
+// What became of lines, where there is only one, put at a place.
+pub fn only(put: Put, at: usize) -> Laid
+    ensures { λ r. ⌜ r ≡ onlyOf put at ⌝ }
+{
+    match put {
+        Put::At(p) => Laid::Whole(p),
+        Put::Full => Laid::Part(at),
+    }
 }

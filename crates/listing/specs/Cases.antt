@@ -16,8 +16,9 @@ use Rattle.text.specs.Table.{readLines}
 use Rattle.chroms.specs.Entry.{entryOf}
 use Rattle.rows.specs.Row.{rowOf}
 use Rattle.lines.specs.Lines.{spelled, decimal}
+use Rattle.lines.specs.Laid.{joined}
 use Rattle.texts.specs.Texts.{Texts, faultOf}
-use Rattle.listing.specs.Listing.{listing, joined}
+use Rattle.listing.specs.Listing.{listing}
 
 -- the texts, and the whole listing
 pub record Case : Type 0 where

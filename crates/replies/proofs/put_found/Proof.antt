@@ -1,0 +1,43 @@
+-- `replies::put_found` meets its contract: one line, and the records' behind it. Assumes nothing.
+use Rattle.lines.proofs.Putting.{puts-inside}
+use Rattle.lines.proofs.LaidLaws.{lays-more, lays-stop}
+use borrow.Author.Needs.{needs}
+use Rattle.replies.proofs.put_found.Statement.{statement}
+use Rattle.replies.proofs.put_found.Tie as tie
+
+put-b-requires : tie.Need-put-b-requires
+put-b-requires c κs = search needs
+
+enum-known-put : tie.Need-enum-known-put
+enum-known-put c = search needs
+
+put-records-requires : tie.Need-put-records-requires
+put-records-requires c κs = (puts-inside (rw (c .before .before .put .given .1) at (c .before .before .before .before .before .before .put-b .ensures)), c .before .before .before .before .before .before .before .before .before .before .before .before .before .before .before .pre .1)
+
+enum-told : tie.Need-enum-told
+enum-told c = search needs
+
+same-length : tie.Need-same-length
+same-length c = search needs
+
+returns : tie.Need-returns
+returns c = lays-more _ (rw (c .before .before .before .before .before .put .given .1) at (c .before .before .before .before .before .before .before .before .before .put-b .ensures)) (c .before .before .put-records .ensures)
+
+same-length-2 : tie.Need-same-length-2
+same-length-2 c = search needs
+
+returns-2 : tie.Need-returns-2
+returns-2 c = lays-stop _ (c .before .before .before .before .before .before .before .before .before .before .before .before .before .pre .0) (rw (c .enum-told .given .1) at (c .before .before .before .before .put-b .ensures))
+
+pub put-found-spec : {M : Type 1} → statement M
+put-found-spec =
+    tie.close
+    (tie.spec
+    put-b-requires
+    enum-known-put
+    put-records-requires
+    enum-told
+    same-length
+    returns
+    same-length-2
+    returns-2)

@@ -1,0 +1,3 @@
+-- Laws of a run inside a listing.
+pub mod NameLaws
+pub mod Beginning

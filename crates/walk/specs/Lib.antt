@@ -1,0 +1,2 @@
+-- A run inside a listing.
+pub mod Run
