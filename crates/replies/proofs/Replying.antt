@@ -1,5 +1,5 @@
 -- The lines of an answer, read from the answer columns as the call leaves them, are those of the reply.
-use Prim.Native.Nat.{ℕ, zero, suc, _+_, _≤_}
+use Prim.Native.Nat.{ℕ, _≤_}
 use mathlib.Core.Path.{_≡_, refl, sym, ap, _∙_}
 use mathlib.Core.List.{List, [], _∷_, _++_, map}
 use native.Mathlib.Omega.{arith}
@@ -9,7 +9,6 @@ use Rattle.lists.proofs.EdgeLaws.{build-shift}
 use Rattle.rules.specs.declared.Base.{Base}
 use Rattle.rules.specs.declared.Offer.{Offer}
 use Rattle.rules.specs.declared.Answer.{Answer}
-use Rattle.rules.specs.declared.Answer.the-variants.{Found}
 use Rattle.rules.specs.Rows.{Record}
 use Rattle.rules.specs.Call.{Reply, found, refused, ended, answerOf, column}
 use Rattle.heads.specs.View.{Cols}
