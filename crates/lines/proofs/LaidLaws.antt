@@ -13,7 +13,7 @@ use Rattle.lines.specs.declared.Put.the-variants.{At, Full}
 use Rattle.lines.specs.declared.Laid.{Laid}
 use Rattle.lines.specs.declared.Laid.the-variants.{Whole, Part}
 use Rattle.lines.specs.Put.{laid, Puts}
-use Rattle.lines.specs.Laid.{joined, fitting, fitted, laidOf, onlyOf, Lays}
+use Rattle.lines.specs.Laid.{joined, fitting, fitted, onlyOf, Lays}
 use Rattle.lines.proofs.Laying.{laid-none, length-laid, laid-append}
 use Rattle.lines.proofs.Putting.{puts-at, puts-full}
 

@@ -1,8 +1,9 @@
--- The document's example of a listing, byte by byte, and the ends of the numbers.
+-- The document's example of a listing, byte by byte, the ends of the numbers, and lines that don't all fit.
 use Prim.Native.Nat.{ℕ}
 use mathlib.Core.Path.{_≡_, refl}
 use mathlib.Core.List.{List, [], _∷_, _++_}
 use Rattle.lines.specs.Lines.{spelled, decimal, lineB, lineR, lineX, lineX′}
+use Rattle.lines.specs.Laid.{fitting}
 
 -- "The whole listing, fields parted by tabs"
 abbrev pub listing : List ℕ
@@ -33,3 +34,7 @@ refused = refl
 pub largest : decimal 18446744073709551615 ≡ 49 ∷ 56 ∷ 52 ∷ 52 ∷ 54 ∷ 55 ∷ 52 ∷ 52 ∷ 48 ∷ 55 ∷ 51 ∷ 55 ∷ 48 ∷ 57 ∷ 53 ∷ 53 ∷ 49 ∷ 54 ∷ 49 ∷ 53 ∷ []
 unfolding spelled decimal
 largest = refl
+
+-- 14: "the lines ahead of the first that doesn't fit": of two, four and one bytes in a space of five, the first alone
+pub fits : fitting 5 ((82 ∷ 10 ∷ []) ∷ (88 ∷ 9 ∷ 49 ∷ 10 ∷ []) ∷ (10 ∷ []) ∷ []) ≡ (82 ∷ 10 ∷ []) ∷ []
+fits = refl

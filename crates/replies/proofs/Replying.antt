@@ -1,5 +1,5 @@
 -- The lines of an answer, read from the answer columns as the call leaves them, are those of the reply.
-use Prim.Native.Nat.{ℕ, zero, suc, _+_, _≤_}
+use Prim.Native.Nat.{ℕ, _≤_}
 use mathlib.Core.Path.{_≡_, refl, sym, ap, _∙_}
 use mathlib.Core.List.{List, [], _∷_, _++_, map}
 use native.Mathlib.Omega.{arith}
@@ -9,13 +9,13 @@ use Rattle.lists.proofs.EdgeLaws.{build-shift}
 use Rattle.rules.specs.declared.Base.{Base}
 use Rattle.rules.specs.declared.Offer.{Offer}
 use Rattle.rules.specs.declared.Answer.{Answer}
-use Rattle.rules.specs.declared.Answer.the-variants.{Found}
 use Rattle.rules.specs.Rows.{Record}
 use Rattle.rules.specs.Call.{Reply, found, refused, ended, answerOf, column}
 use Rattle.heads.specs.View.{Cols}
 use Rattle.lines.specs.declared.Laid.{Laid}
 use Rattle.lines.specs.Lines.{lineB}
 use Rattle.lines.specs.Laid.{Lays}
+use Rattle.lines.proofs.LaidLaws.{lays-alike}
 use Rattle.sweep.specs.declared.Run.{Run}
 use Rattle.sweep.specs.declared.Given.{Given}
 use Rattle.sweep.specs.Settle.{Lent}
@@ -71,3 +71,10 @@ module _ {s : Cols} {lengths : List ℕ} {r : Run} {b : Base} {l l′ : Lent} {g
     gives = w;
     lays = rw (lines-by s (r .from) name row b (l .streams) (l .rows) (givenOf s lengths r b l .reply) (w .settles .answer) (w .settles .streams) (w .settles .rows)) at v;
   }
+
+-- any two results have the same lines; of the run and what is lent with it the sweep's own statement says what is the same
+pub lists-alike : {s : Cols} {lengths : List ℕ} {r : Run} {b : Base} {row : ℕ} {name : List ℕ} {l : Lent} {out : List ℕ} {at : ℕ} {x y : Listed} {l₁ l₂ : Lent} {out₁ out₂ : List ℕ}
+    → Lists s lengths r b row name l out at x l₁ out₁ → Lists s lengths r b row name l out at y l₂ out₂ → (x .answer ≡ y .answer) × (x .lines ≡ y .lines) × (out₁ ≡ out₂)
+lists-alike v w =
+    let k = lays-alike (v .lays) (w .lays) in
+    (v .gives .settles .answer ∙ sym (w .gives .settles .answer), k .0, k .1)
