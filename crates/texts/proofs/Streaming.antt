@@ -160,7 +160,7 @@ places-built : build (λ j. j * rowsMost) 8 0 ≡ places
 unfolding build
 places-built = refl
 
-place-at : (k : ℕ) → k < 8 → getD places k 0 ≡ k * rowsMost
+pub place-at : (k : ℕ) → k < 8 → getD places k 0 ≡ k * rowsMost
 place-at k h =
     let z : 0 + k ≡ k = omega arith in
     ap (λ (l : List ℕ). getD l k 0) (sym places-built) ∙ build-get (λ j. j * rowsMost) 8 0 k 0 h ∙ ap (λ (j : ℕ). j * rowsMost) z

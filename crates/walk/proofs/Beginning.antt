@@ -5,20 +5,22 @@ use mathlib.Core.Option.{Option, none, some}
 use mathlib.Core.List.{List, [], _∷_}
 use Prim.Native.Nat.{ℕ, zero, suc, _+_, _-_, _*_, _≤_, _<_}
 use native.Mathlib.Omega.{arith}
-use lib.Dec.{eqb}
+use lib.Dec.{leb, eqb}
 use lib.ListN.{length, getD, take, length-take}
 use lib.Seq.{length-take-le}
 use borrow.Author.Tests.{eq-eqb}
 use Rattle.lists.specs.Lists.{All, nil, cons}
 use Rattle.lists.specs.Build.{build}
-use Rattle.lists.proofs.SaysLaws.{says-true}
+use Rattle.lists.proofs.SaysLaws.{says-true, says-le, says-and}
 use Rattle.rules.specs.declared.Unbegun.{Unbegun}
 use Rattle.rules.specs.declared.Unbegun.the-variants.{Sizes}
 use Rattle.rules.specs.declared.Row.{Row}
 use Rattle.rules.specs.Rows.{Record, number, numbered}
 use Rattle.rules.specs.Streams.{else}
 use Rattle.rules.specs.Start.{refusesStart}
+use Rattle.rules.specs.Start as start
 use Rattle.rules.specs.Call.{fresh}
+use Rattle.rules.specs.Call as rules
 use Rattle.theory.proofs.MergeLaws.{Each}
 use Rattle.text.specs.Names.{within, names}
 use Rattle.heads.specs.View.{Cols}
@@ -33,9 +35,10 @@ use Rattle.sweep.proofs.StartLaws.{begun-fresh, begun-right}
 use Rattle.heads.specs.Move.{Shaped}
 use Rattle.demands.specs.Calls.{Blameless}
 use Rattle.demands.proofs.KeptLaws.{each-all}
-use Rattle.texts.specs.Texts.{Texts, Fault, room, rowsMost, namesOf, jobOf, sizesFault, foundFault, listFault, unbegunFault, streamsFault, faultOf, entriesIn, rowsIn}
+use Rattle.texts.specs.Texts.{Texts, Fault, fault, room, rowsMost, bytesMost, bytesOf, namesIn, namesOf, jobOf, sizesFault, foundFault, listFault, unbegunFault, streamsFault, faultOf, entriesIn, rowsIn}
 use Rattle.texts.specs.Read.{places, Named, Columns, Rooms}
 use Rattle.texts.specs.declared.Read.{Read}
+use Rattle.texts.proofs.Streaming.{place-at}
 use Rattle.walk.specs.Run.{Own, Comes, Fine, Slots, Begins, planOf}
 
 -- ---- nothing wrong
@@ -86,11 +89,64 @@ module _ {t : Texts} {r : Read} {list from to len : List ℕ} {b s : Cols} (is-l
   abbrev names-is : Named list (r .names) from to len
   names-is = subst (λ (l : List ℕ). Named l (r .names) from to len) is-list (f .columns .names)
 
-  few : length (t .streams) ≤ 8
-  few = ?
+  some-streams : (1 ≤ length (t .streams)) × (length (t .streams) ≤ 8)
+  some-streams =
+      let h = says-and (says-le (bytesOf t) bytesMost) (says-and (says-le 1 (length (t .streams))) (says-le (length (t .streams)) 8)) .yes (passed (leb (bytesOf t) bytesMost && start.within 1 8 (length (t .streams))) (fine-sizes t (f .fine))) in
+      h .1
+    where
+      passed : (u : Bool) → cond u none (some (fault 1 0 0)) ≡ none → u ≡ true
+      passed true e = refl
+      passed false e = let z : _≡_ {A = ℕ} 0 1 = cc in absurd (omega arith)
 
   lends : lendable p ≡ true
-  lends = ?
+  unfolding lendable
+  lends =
+      let even : evened s ≡ true = rw (f .rooms .chrom, f .rooms .start, f .rooms .stop) in
+      let rows : inRows p ≡ true = says-true (ranged-says (length (s .chrom)) (r .streams) places (r .to))
+          (omega (arith, f .columns .streams, some-streams .1), λ k h. (omega (arith, place-at k (omega (arith, f .columns .streams, some-streams .1)), f .columns .low k (omega (arith, f .columns .streams))),
+            omega (arith, f .columns .high k (omega (arith, f .columns .streams)), f .rooms .chrom, f .columns .streams, some-streams .1))) in
+      rw (even, rows) (names-is .inside)
 
   begun : startOf p .begins ≡ Begun
-  begun = ?
+  unfolding refusedOf
+  begun =
+      ap begunBy (ap (λ (u : Bool). cond u (refusesStart (r .streams) (names list (take (r .names) from) (take (r .names) to)) room) (some Sizes)) lends
+      ∙ ap (λ (n : ℕ). refusesStart n (names list (take (r .names) from) (take (r .names) to)) room) (f .columns .streams)
+      ∙ ap (λ (ns : List (List ℕ)). refusesStart (length (t .streams)) ns room) (names-is .named ∙ ap namesIn (sym is-list))
+      ∙ fine-names t (f .fine))
+
+  -- what is left is all the streams' rows
+  abbrev streams : List (List Row)
+  streams = streamsOf s (r .streams) places (r .to)
+
+  fresh-is : (c : Cells) → runOf s c (startOf p .run) ≡ fresh streams
+  fresh-is c = begun-fresh p begun c
+
+  from-is : startOf p .run .from ≡ places
+  from-is = rw begun
+
+  room-is : startOf p .run .ring .room ≡ room
+  room-is = rw begun
+
+  lengths-long : length (take (r .names) len) ≡ length (take (r .names) from)
+  lengths-long =
+      let a = length-take-le (r .names) len (omega (arith, names-is .few, f .rooms .lengths)) in
+      let b = length-take-le (r .names) from (omega (arith, names-is .few, f .rooms .names-from)) in
+      a ∙ sym b
+
+  comes : (c : Cells) → Slots c → Comes s (take (r .names) len) (startOf p .run) c
+  comes c z = record {
+    blameless = λ ss rs enough paired. begun-right p begun (take (r .names) len) (lent c ss rs)
+        (record { listed = lengths-long; stream = z .stream; row = z .row; start = z .start; stop = z .stop; answer = omega (arith, enough, room-is); paired = paired });
+    whole = rw begun (λ z. record { chrom = refl; start = refl; stop = refl; row = refl; ended = refl; next = refl });
+    room = room-is;
+    left = λ k. subst (λ (l : List ℕ). All (Own s l) (getD (runOf s c (startOf p .run) .left) k [])) (sym from-is)
+        (subst (λ (x : rules.Run). All (Own s places) (getD (x .left) k [])) (sym (fresh-is c)) (each-all (Own s places) (all-numbered s places (r .to) (r .streams) 0) k));
+    queue = subst (λ (l : List ℕ). All (Own s l) (runOf s c (startOf p .run) .queue)) (sym from-is) (subst (λ (x : rules.Run). All (Own s places) (x .queue)) (sym (fresh-is c)) nil);
+  }
+
+  pub begins : Begins t (r .names) len s (startOf p .run)
+  begins = record {
+    comes = comes;
+    fresh-run = λ c. fresh-is c ∙ ap (λ (n : ℕ). fresh (streamsOf s n places (r .to))) (f .columns .streams) ∙ ap fresh (f .columns .rows);
+  }

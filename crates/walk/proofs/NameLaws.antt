@@ -1,6 +1,6 @@
 -- The name that a chromosome's number names: where it stands in the list's text.
 use Prim.Native.Nat.{ℕ, zero, suc, _≤_}
-use mathlib.Core.Path.{_≡_, refl, sym}
+use mathlib.Core.Path.{_≡_, refl, sym, subst}
 use mathlib.Core.List.{List, [], _∷_}
 use mathlib.Core.Bool.{true, false, _&&_, true≢false}
 use native.Mathlib.Omega.{arith}
@@ -8,7 +8,12 @@ use lib.Dec.{leb}
 use lib.ListN.{length, getD}
 use borrow.Author.Tests.{leb-true}
 use Rattle.text.specs.Names.{part, within, names}
+use Rattle.rules.specs.declared.Base.{Base}
 use Rattle.heads.specs.View.{Cols}
+use Rattle.sweep.specs.declared.Run.{Run}
+use Rattle.sweep.specs.Settle.{Lent}
+use Rattle.replies.specs.declared.Listed.{Listed}
+use Rattle.replies.specs.List.{Lists}
 use Rattle.walk.specs.Run.{Bases}
 use Rattle.text.proofs.Both.{and-left, and-right}
 
@@ -45,5 +50,10 @@ module _ {text fs ts : List ℕ} {b : Cols} {n f t : ℕ} (w : Bases text fs ts 
   pub name-inside : t ≤ length text
   name-inside = rw ht (name-high (length text) fs ts c (w .inside))
 
-  pub name-is : part f t text ≡ getD (names text fs ts) c []
+  name-is : part f t text ≡ getD (names text fs ts) c []
   name-is = rw (hf, ht) (name-get text fs ts c (w .inside))
+
+  -- so a base that is given by the one is given by the other
+  pub name-listed : {s : Cols} {lengths : List ℕ} {r : Run} {base : Base} {row : ℕ} {l : Lent} {out : List ℕ} {at : ℕ} {x : Listed} {l′ : Lent} {out′ : List ℕ} →
+      Lists s lengths r base row (part f t text) l out at x l′ out′ → Lists s lengths r base row (getD (names text fs ts) c []) l out at x l′ out′
+  name-listed {s} {lengths} {r} {base} {row} {l} {out} {at} {x} {l′} {out′} h = subst (λ (name : List ℕ). Lists s lengths r base row name l out at x l′ out′) name-is h

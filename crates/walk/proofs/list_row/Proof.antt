@@ -1,10 +1,6 @@
 -- `walk::list_row` meets its contract: the base and its chromosome's name are read, and the base is given. Assumes nothing.
 use lib.ListN.{getD}
-use Rattle.walk.proofs.NameLaws.{name-apart, name-inside, name-is}
-use Rattle.replies.specs.List.{Lists}
-use Prim.Native.Nat.{ℕ}
-use mathlib.Core.List.{List}
-use mathlib.Core.Path.{subst}
+use Rattle.walk.proofs.NameLaws.{name-apart, name-inside, name-listed}
 use borrow.Author.Needs.{needs}
 use Rattle.walk.proofs.list_row.Statement.{statement}
 use Rattle.walk.proofs.list_row.Tie as tie
@@ -91,7 +87,7 @@ same-length-7 c = search needs
 
 -- src/lib.rt:62:1
 returns : tie.Need-returns
-returns c = subst (λ (name : List ℕ). Lists _ _ _ _ _ name _ _ _ _ _ _) (name-is (c .before .before .before .before .before .before .before .before .before .before .before .before .before .before .before .before .before .before .before .before .before .before .before .before .before .before .before .before .before .before .before .before .before .before .before .before .before .before .before .before .before .before .before .before .before .pre) (getD (c .before .before .before .before .before .before .before .before .before .before .before .before .before .before .before .before .before .before .before .before .before .before .before .before .before .before .before .before .before .before .before .before .before .before .before .before .before .before .before .before .before .before .before .before .before .args .bchrom .now) (c .before .before .before .before .before .before .before .before .before .before .before .before .before .before .before .before .before .before .before .before .before .before .before .before .before .before .before .before .before .before .before .before .before .before .before .before .before .before .before .before .before .before .before .before .before .args .i) 0) (c .before .before .before .before .before .before .before .before .before .before .before .before .before .before .before .before .before .before .before .before .before .before .before .before .place-at .ensures) (c .before .before .before .before .before .before .before .before .before .before .before .before .before .before .before .before .before .before .before .before .before .before .before .place-at2 .ensures)) (c .before .before .before .before .before .before .before .before .before .before .before .before .before .before .list-base .ensures)
+returns c = name-listed (c .before .before .before .before .before .before .before .before .before .before .before .before .before .before .before .before .before .before .before .before .before .before .before .before .before .before .before .before .before .before .before .before .before .before .before .before .before .before .before .before .before .before .before .before .before .pre) (getD (c .before .before .before .before .before .before .before .before .before .before .before .before .before .before .before .before .before .before .before .before .before .before .before .before .before .before .before .before .before .before .before .before .before .before .before .before .before .before .before .before .before .before .before .before .before .args .bchrom .now) (c .before .before .before .before .before .before .before .before .before .before .before .before .before .before .before .before .before .before .before .before .before .before .before .before .before .before .before .before .before .before .before .before .before .before .before .before .before .before .before .before .before .before .before .before .before .args .i) 0) (c .before .before .before .before .before .before .before .before .before .before .before .before .before .before .before .before .before .before .before .before .before .before .before .before .place-at .ensures) (c .before .before .before .before .before .before .before .before .before .before .before .before .before .before .before .before .before .before .before .before .before .before .before .place-at2 .ensures) (c .before .before .before .before .before .before .before .before .before .before .before .before .before .before .list-base .ensures)
 
 pub list-row-spec : {M : Type 1} → statement M
 list-row-spec =
