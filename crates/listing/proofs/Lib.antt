@@ -1,1 +1,2 @@
 -- Laws of the listing.
+pub mod Telling

@@ -1,28 +1,22 @@
 // The listing of texts: files to text, in one call for hosts.
 use lines::Laid;
 use lines::Put;
-use replies::Listed;
 use rules::Answer;
-use rules::Base;
-use rules::Chrom;
 use sweep::Run;
 use texts::Read;
 use texts::Verdict;
 ghost use mathlib.Core.Path.{_≡_};
-ghost use mathlib.Core.List.{[]};
-ghost use Prim.Native.Nat.{_+_, _≤_, _<_};
-ghost use lib.ListN.{length, getD};
+ghost use lib.ListN.{length};
 ghost use Rattle.text.specs.Names.{names};
 ghost use Rattle.heads.specs.View.{cols};
 ghost use Rattle.queue.specs.Ring.{cells};
 ghost use Rattle.lines.specs.Laid.{Lays};
-ghost use Rattle.sweep.specs.Settle.{lent};
-ghost use Rattle.replies.specs.List.{Lists};
 ghost use Rattle.texts.specs.Texts.{rowsMost, room};
 ghost use Rattle.texts.specs.Parted.{textsOf};
-ghost use Rattle.texts.specs.Read.{baseIn, Rooms};
+ghost use Rattle.texts.specs.Read.{Rooms};
+ghost use Rattle.walk.specs.Run.{Comes, Bases, Fine};
 ghost use Rattle.listing.specs.Listing.{listing};
-ghost use Rattle.listing.specs.Run.{Comes, Answers, Bases, linesFrom, stepOf, Fine};
+ghost use Rattle.listing.specs.Run.{linesFrom, stepOf};
 ghost use Rattle.listing.specs.Call.{Writes};
 
 // 0, or 14 where the listing is longer than its buffer; and how many bytes of it stand there.
@@ -52,3 +46,53 @@ fn step_after(answer: Answer, lines: Laid) -> Step
     }
 }
 
+
+// The lines of n bases, one behind the other, until the run ends or a line doesn't fit.
+fn list_bases(
+    run: Run,
+    n: usize,
+    list: &[u8],
+    from: &[usize],
+    to: &[usize],
+    lengths: &[u64],
+    bchrom: &[u64],
+    bstart: &[u64],
+    bstop: &[u64],
+    chrom: &[u64],
+    start: &[u64],
+    stop: &[u64],
+    qstream: &mut [u64],
+    qrow: &mut [u64],
+    qstart: &mut [u64],
+    qstop: &mut [u64],
+    streams: &mut [u64],
+    rows: &mut [u64],
+    out: &mut [u8],
+) -> Laid
+    requires { ⌜ Bases (now list) (now from) (now to) (cols (now bchrom) (now bstart) (now bstop)) n
+        × Comes (cols (now chrom) (now start) (now stop)) (now lengths) run (cells (now qstream) (now qrow) (now qstart) (now qstop))
+        × (length (now streams) ≡ room) × (length (now rows) ≡ room) ⌝ }
+    ensures { λ r. ⌜ Lays (now (out .entry)) 0
+        (linesFrom (names (now (list .entry)) (now (from .entry)) (now (to .entry))) (now (lengths .entry)) (cols (now (bchrom .entry)) (now (bstart .entry)) (now (bstop .entry)))
+            (cols (now (chrom .entry)) (now (start .entry)) (now (stop .entry))) n 0 run (cells (now (qstream .entry)) (now (qrow .entry)) (now (qstart .entry)) (now (qstop .entry))))
+        r (now (out .exit)) ⌝ }
+{
+    let mut u = run;
+    let mut at: usize = 0;
+    let mut i: usize = 0;
+    while i < n {
+        let x = walk::list_row(
+            u, i, list, from, to, lengths, bchrom, bstart, bstop, chrom, start, stop, qstream, qrow, qstart, qstop, streams, rows, out, at,
+        );
+        u = x.run;
+        i += 1;
+        let answer = x.answer;
+        let lines = x.lines;
+        let step = step_after(answer, lines);
+        let Step::On(p) = step else {
+            return lines;
+        };
+        at = p;
+    }
+    Laid::Whole(at)
+}
