@@ -1,0 +1,2 @@
+-- Laws of the run in numbers.
+pub mod HeldLaws
