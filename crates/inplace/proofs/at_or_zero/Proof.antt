@@ -1,3 +1,4 @@
+-- `at_or_zero` meets its contract.
 use borrow.Author.Needs.{needs}
 use denote.Ref.{now}
 use mathlib.Core.Path.{sym}
@@ -5,22 +6,16 @@ use lib.ListN.{List·getD-eq-default}
 use native.Mathlib.Omega.{arith}
 use Rattle.inplace.proofs.at_or_zero.Statement.{statement}
 use Rattle.inplace.proofs.at_or_zero.Tie as tie
-use Rattle.inplace.proofs.at_or_zero.Reads as reads
-use Rattle.inplace.proofs.at_or_zero.Lts as lts
 
--- src/lib.rt:346:16
 mul-result : tie.Need-mul-result
 mul-result c = search needs
 
--- src/lib.rt:346:16
 shared-slice-read-result : tie.Need-shared-slice-read-result
 shared-slice-read-result c = search needs
 
--- src/lib.rt:346:9
 returns : tie.Need-returns
 returns c = search needs
 
--- src/lib.rt:342:1
 returns-2 : tie.Need-returns-2
 returns-2 c = sym (List·getD-eq-default (now (c .before .args .s)) 0 {n = c .before .args .k} (omega (arith, c .if1 .left)))
 

@@ -1,22 +1,17 @@
+-- `end_of` meets its contract.
 use borrow.Author.Tests.{eq-eqb, ne-eqb}
 use Rattle.inplace.proofs.end_of.Statement.{statement}
 use Rattle.inplace.proofs.end_of.Tie as tie
-use Rattle.inplace.proofs.end_of.Reads as reads
-use Rattle.inplace.proofs.end_of.Lts as lts
 
--- src/lib.rt:90:9
 returns : tie.Need-returns
 returns c = rw (eq-eqb _ 7 (c .if1 .taken))
 
--- src/lib.rt:93:9
 returns-2 : tie.Need-returns-2
 returns-2 c = rw (ne-eqb _ 7 (c .before .before .if1 .left), eq-eqb _ 8 (c .if2 .taken))
 
--- src/lib.rt:96:9
 returns-3 : tie.Need-returns-3
 returns-3 c = rw (ne-eqb _ 7 (c .before .before .before .before .if1 .left), ne-eqb _ 8 (c .before .before .if2 .left), eq-eqb _ 9 (c .if3 .taken))
 
--- src/lib.rt:85:1
 returns-4 : tie.Need-returns-4
 returns-4 c = rw (ne-eqb _ 7 (c .before .before .before .before .if1 .left), ne-eqb _ 8 (c .before .before .if2 .left), ne-eqb _ 9 (c .if3 .left))
 

@@ -1,55 +1,41 @@
+-- `end_told` meets its contract.
 use borrow.Author.Needs.{needs}
 use Rattle.inplace.proofs.end_told.Statement.{statement}
 use Rattle.inplace.proofs.end_told.Tie as tie
-use Rattle.inplace.proofs.end_told.Reads as reads
-use Rattle.inplace.proofs.end_told.Lts as lts
-use Rattle.inplace.proofs.refused_told.Reads as refused-told-reads
 
--- src/lib.rt:281:21
 enum-known-e : tie.Need-enum-known-e
 enum-known-e c = search needs
 
--- src/lib.rt:281:30
 refused-told-requires : tie.Need-refused-told-requires
 refused-told-requires c κs = search needs
 
--- src/lib.rt:282:23
 enum-known-e-2 : tie.Need-enum-known-e-2
 enum-known-e-2 c = search needs
 
--- src/lib.rt:282:32
 refused-told-requires-2 : tie.Need-refused-told-requires-2
 refused-told-requires-2 c κs = search needs
 
--- src/lib.rt:283:24
 enum-told : tie.Need-enum-told
 enum-told c = search needs
 
--- src/lib.rt:283:24
 refused-told-requires-3 : tie.Need-refused-told-requires-3
 refused-told-requires-3 c κs = search needs
 
--- src/lib.rt:284:24
 enum-told-2 : tie.Need-enum-told-2
 enum-told-2 c = search needs
 
--- src/lib.rt:284:24
 refused-told-requires-4 : tie.Need-refused-told-requires-4
 refused-told-requires-4 c κs = search needs
 
--- src/lib.rt:277:1
 returns : tie.Need-returns
 returns c = rw (c .before .before .e .given .1) (c .refused-told .ensures)
 
--- src/lib.rt:277:1
 returns-2 : tie.Need-returns-2
 returns-2 c = rw (c .before .before .e2 .given .1) (c .refused-told2 .ensures)
 
--- src/lib.rt:277:1
 returns-3 : tie.Need-returns-3
 returns-3 c = rw (c .before .enum-told .given .1) (c .refused-told3 .ensures)
 
--- src/lib.rt:277:1
 returns-4 : tie.Need-returns-4
 returns-4 c = rw (c .before .enum-told2 .given .1) (c .refused-told4 .ensures)
 

@@ -1,38 +1,29 @@
+-- `mark_of_end` meets its contract.
 use borrow.Author.Needs.{needs}
 use Rattle.inplace.proofs.mark_of_end.Statement.{statement}
 use Rattle.inplace.proofs.mark_of_end.Tie as tie
-use Rattle.inplace.proofs.mark_of_end.Reads as reads
-use Rattle.inplace.proofs.mark_of_end.Lts as lts
 
--- src/lib.rt:125:21
 enum-known-e : tie.Need-enum-known-e
 enum-known-e c = search needs
 
--- src/lib.rt:131:23
 enum-known-e-2 : tie.Need-enum-known-e-2
 enum-known-e-2 c = search needs
 
--- src/lib.rt:137:24
 enum-told : tie.Need-enum-told
 enum-told c = search needs
 
--- src/lib.rt:143:24
 enum-told-2 : tie.Need-enum-told-2
 enum-told-2 c = search needs
 
--- src/lib.rt:121:1
 returns : tie.Need-returns
 returns c = rw (c .before .e .given .1)
 
--- src/lib.rt:121:1
 returns-2 : tie.Need-returns-2
 returns-2 c = rw (c .before .e2 .given .1)
 
--- src/lib.rt:121:1
 returns-3 : tie.Need-returns-3
 returns-3 c = rw (c .enum-told .given .1)
 
--- src/lib.rt:121:1
 returns-4 : tie.Need-returns-4
 returns-4 c = rw (c .enum-told2 .given .1)
 

@@ -1,33 +1,24 @@
+-- `cedarlash_read_list` meets its contract.
 use borrow.Author.Needs.{needs}
 use Rattle.inplace.proofs.HeldLaws.{tallies-so}
 use Rattle.inplace.proofs.readers.cedarlash_read_list.Statement.{statement}
 use Rattle.inplace.proofs.readers.cedarlash_read_list.Tie as tie
-use Rattle.inplace.proofs.readers.cedarlash_read_list.Reads as reads
-use Rattle.inplace.proofs.readers.cedarlash_read_list.Lts as lts
-use Rattle.chroms.proofs.read_list.Reads as read-list-reads
-use Rattle.inplace.proofs.readers.tally_of.Reads as tally-of-reads
 
--- src/readers.rt:53:9
 read-list-requires : tie.Need-read-list-requires
 read-list-requires c κs = search needs
 
--- src/readers.rt:54:5
 tally-of-requires : tie.Need-tally-of-requires
 tally-of-requires c κs = search needs
 
--- src/readers.rt:48:1
 same-length : tie.Need-same-length
 same-length c = search needs
 
--- src/readers.rt:48:1
 same-length-2 : tie.Need-same-length-2
 same-length-2 c = search needs
 
--- src/readers.rt:48:1
 same-length-3 : tie.Need-same-length-3
 same-length-3 c = search needs
 
--- src/readers.rt:48:1
 returns : tie.Need-returns
 returns c = tallies-so (c .before .before .before .before .before .before .before .read-list .ensures) (c .tally-of .ensures)
 

@@ -1,38 +1,29 @@
+-- `tally_of` meets its contract.
 use borrow.Author.Needs.{needs}
 use Rattle.inplace.proofs.readers.tally_of.Statement.{statement}
 use Rattle.inplace.proofs.readers.tally_of.Tie as tie
-use Rattle.inplace.proofs.readers.tally_of.Reads as reads
-use Rattle.inplace.proofs.readers.tally_of.Lts as lts
 
--- src/readers.rt:23:24
 enum-known-r : tie.Need-enum-known-r
 enum-known-r c = search needs
 
--- src/readers.rt:24:28
 enum-known-r-2 : tie.Need-enum-known-r-2
 enum-known-r-2 c = search needs
 
--- src/readers.rt:28:23
 enum-known-r-3 : tie.Need-enum-known-r-3
 enum-known-r-3 c = search needs
 
--- src/readers.rt:32:29
 enum-told : tie.Need-enum-told
 enum-told c = search needs
 
--- src/readers.rt:19:1
 returns : tie.Need-returns
 returns c = rw (c .before .r .given .1)
 
--- src/readers.rt:19:1
 returns-2 : tie.Need-returns-2
 returns-2 c = rw (c .before .r2 .given .1)
 
--- src/readers.rt:19:1
 returns-3 : tie.Need-returns-3
 returns-3 c = rw (c .before .r3 .given .1)
 
--- src/readers.rt:19:1
 returns-4 : tie.Need-returns-4
 returns-4 c = rw (c .enum-told .given .1)
 
