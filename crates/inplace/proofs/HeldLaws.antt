@@ -18,8 +18,8 @@ use Rattle.sweep.specs.Start.{plan, startOf}
 use Rattle.sweep.specs.Give.{Gives}
 use Rattle.text.specs.declared.Reading.{Reading}
 use Rattle.text.specs.Table.{Found, Fills}
-use Rattle.inplace.specs.declared.Held.{Held}
-use Rattle.inplace.specs.declared.Told.{Told}
+use Rattle.inplace.specs.declared.held.Held.{Held}
+use Rattle.inplace.specs.declared.told.Told.{Told}
 use Rattle.inplace.specs.declared.readers.Tally.{Tally}
 use Rattle.inplace.specs.Held.{stageOf, markOf, runOf, heldOf}
 use Rattle.inplace.specs.Told.{toldOf}

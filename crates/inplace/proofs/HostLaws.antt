@@ -32,8 +32,8 @@ use Rattle.sweep.specs.View as sweep
 use Rattle.sweep.specs.Settle.{Lent, drawnTo, runBy}
 use Rattle.sweep.specs.Start.{Plan, namesOf, lendable, refusedOf, begunBy, startOf}
 use Rattle.sweep.specs.Give.{lensOf, rightOf, givenOf, openedBy}
-use Rattle.inplace.specs.declared.Held.{Held}
-use Rattle.inplace.specs.declared.Told.{Told}
+use Rattle.inplace.specs.declared.held.Held.{Held}
+use Rattle.inplace.specs.declared.told.Told.{Told}
 use Rattle.inplace.specs.Held.{runOf, heldOf, marked}
 use Rattle.inplace.specs.Told.{toldOf}
 use Rattle.inplace.specs.Calls.{planOf, BeginsInPlace, GivesInPlace}

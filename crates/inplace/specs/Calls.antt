@@ -15,8 +15,8 @@ use Rattle.sweep.specs.declared.start.Begins.the-variants.{Begun, Refused}
 use Rattle.sweep.specs.Settle.{Lent}
 use Rattle.sweep.specs.Start.{Plan, plan, startOf}
 use Rattle.sweep.specs.Give.{Gives, givenOf}
-use Rattle.inplace.specs.declared.Held.{Held}
-use Rattle.inplace.specs.declared.Told.{Told}
+use Rattle.inplace.specs.declared.held.Held.{Held}
+use Rattle.inplace.specs.declared.told.Told.{Told}
 use Rattle.inplace.specs.Held.{runOf, heldOf}
 use Rattle.inplace.specs.Told.{toldOf}
 

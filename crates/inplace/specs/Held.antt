@@ -8,8 +8,8 @@ use Rattle.rules.specs.declared.Stage.{Stage}
 use Rattle.rules.specs.declared.Stage.the-variants.{Fresh, After, Over}
 use Rattle.rules.specs.Numbers.{endNumber}
 use Rattle.sweep.specs.declared.Run.{Run}
-use Rattle.inplace.specs.declared.Mark.{Mark}
-use Rattle.inplace.specs.declared.Held.{Held}
+use Rattle.inplace.specs.declared.held.Mark.{Mark}
+use Rattle.inplace.specs.declared.held.Held.{Held}
 
 -- ---- from numbers
 

@@ -8,7 +8,7 @@ use Rattle.rules.specs.declared.End.{End}
 use Rattle.rules.specs.declared.Answer.{Answer}
 use Rattle.rules.specs.declared.Answer.the-variants.{Found, Refused, Ended}
 use Rattle.rules.specs.Numbers.{refusalNumber, endNumber, endValues}
-use Rattle.inplace.specs.declared.Told.{Told}
+use Rattle.inplace.specs.declared.told.Told.{Told}
 
 -- "On success": the count of the records, and the offered place, if one is
 abbrev pub foundTold : ℕ → Offer → Told

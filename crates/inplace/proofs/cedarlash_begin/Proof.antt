@@ -43,11 +43,11 @@ use denote.Exit.{yes}
 use lib.ListN.{length}
 use Rattle.heads.specs.View.{cols}
 use Rattle.inplace.specs.Calls.{planOf, BeginsInPlace}
-use Rattle.inplace.specs.declared.Held.{Held}
+use Rattle.inplace.specs.declared.held.Held.{Held}
 use Rattle.inplace.specs.declared.Begun.{Begun}
 use Rattle.inplace.proofs.Walking.{asks-nothing}
-use Rattle.inplace.proofs.Held as T
-use Rattle.inplace.proofs.Held.Laws as T′
+use Rattle.inplace.proofs.held.Held as T
+use Rattle.inplace.proofs.held.Held.Laws as T′
 use Rattle.inplace.proofs.Begun as S
 use Rattle.inplace.proofs.Begun.Laws as S′
 use Rattle.inplace.proofs.begin_held as step

@@ -46,16 +46,16 @@ use Rattle.heads.specs.View.{Cols, cols}
 use Rattle.queue.specs.Ring.{cells}
 use Rattle.sweep.specs.Settle.{Lent, lent}
 use Rattle.inplace.specs.Calls.{baseOf, GivesInPlace}
-use Rattle.inplace.specs.declared.Held.{Held}
+use Rattle.inplace.specs.declared.held.Held.{Held}
 use Rattle.inplace.specs.declared.Stepped.{Stepped}
-use Rattle.inplace.specs.declared.Told.{Told}
+use Rattle.inplace.specs.declared.told.Told.{Told}
 use Rattle.inplace.proofs.Walking.{asks-nothing}
-use Rattle.inplace.proofs.Held as T
-use Rattle.inplace.proofs.Held.Laws as T′
+use Rattle.inplace.proofs.held.Held as T
+use Rattle.inplace.proofs.held.Held.Laws as T′
 use Rattle.inplace.proofs.Stepped as S
 use Rattle.inplace.proofs.Stepped.Laws as S′
-use Rattle.inplace.proofs.Told as U
-use Rattle.inplace.proofs.Told.Laws as U′
+use Rattle.inplace.proofs.told.Told as U
+use Rattle.inplace.proofs.told.Told.Laws as U′
 use Rattle.inplace.proofs.give_held as step
 use Rattle.inplace.proofs.give_held.Symbol as step-def
 use Rattle.inplace.proofs.give_held.Symbol.{name as #inplace·give-held}

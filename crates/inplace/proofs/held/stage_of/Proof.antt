@@ -1,8 +1,8 @@
 -- `stage_of` meets its contract.
 use borrow.Author.Needs.{needs}
 use borrow.Author.Tests.{eq-eqb, ne-eqb}
-use Rattle.inplace.proofs.stage_of.Statement.{statement}
-use Rattle.inplace.proofs.stage_of.Tie as tie
+use Rattle.inplace.proofs.held.stage_of.Statement.{statement}
+use Rattle.inplace.proofs.held.stage_of.Tie as tie
 
 returns : tie.Need-returns
 returns c = rw (eq-eqb _ 0 (c .if1 .taken))

@@ -1,7 +1,7 @@
 -- `held_of` meets its contract.
 use borrow.Author.Needs.{needs}
-use Rattle.inplace.proofs.held_of.Statement.{statement}
-use Rattle.inplace.proofs.held_of.Tie as tie
+use Rattle.inplace.proofs.held.held_of.Statement.{statement}
+use Rattle.inplace.proofs.held.held_of.Tie as tie
 
 mark-of-requires : tie.Need-mark-of-requires
 mark-of-requires c κs = search needs

@@ -1,7 +1,7 @@
 -- `mark_of_end` meets its contract.
 use borrow.Author.Needs.{needs}
-use Rattle.inplace.proofs.mark_of_end.Statement.{statement}
-use Rattle.inplace.proofs.mark_of_end.Tie as tie
+use Rattle.inplace.proofs.held.mark_of_end.Statement.{statement}
+use Rattle.inplace.proofs.held.mark_of_end.Tie as tie
 
 enum-known-e : tie.Need-enum-known-e
 enum-known-e c = search needs

@@ -1,7 +1,7 @@
 -- `found_told` meets its contract.
 use borrow.Author.Needs.{needs}
-use Rattle.inplace.proofs.found_told.Statement.{statement}
-use Rattle.inplace.proofs.found_told.Tie as tie
+use Rattle.inplace.proofs.told.found_told.Statement.{statement}
+use Rattle.inplace.proofs.told.found_told.Tie as tie
 
 enum-told : tie.Need-enum-told
 enum-told c = search needs

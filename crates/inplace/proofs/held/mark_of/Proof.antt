@@ -1,7 +1,7 @@
 -- `mark_of` meets its contract.
 use borrow.Author.Needs.{needs}
-use Rattle.inplace.proofs.mark_of.Statement.{statement}
-use Rattle.inplace.proofs.mark_of.Tie as tie
+use Rattle.inplace.proofs.held.mark_of.Statement.{statement}
+use Rattle.inplace.proofs.held.mark_of.Tie as tie
 
 enum-told : tie.Need-enum-told
 enum-told c = search needs

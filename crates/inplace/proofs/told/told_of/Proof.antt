@@ -1,7 +1,7 @@
 -- `told_of` meets its contract.
 use borrow.Author.Needs.{needs}
-use Rattle.inplace.proofs.told_of.Statement.{statement}
-use Rattle.inplace.proofs.told_of.Tie as tie
+use Rattle.inplace.proofs.told.told_of.Statement.{statement}
+use Rattle.inplace.proofs.told.told_of.Tie as tie
 
 enum-known-a : tie.Need-enum-known-a
 enum-known-a c = search needs

@@ -1,7 +1,7 @@
 -- `end_of` meets its contract.
 use borrow.Author.Tests.{eq-eqb, ne-eqb}
-use Rattle.inplace.proofs.end_of.Statement.{statement}
-use Rattle.inplace.proofs.end_of.Tie as tie
+use Rattle.inplace.proofs.held.end_of.Statement.{statement}
+use Rattle.inplace.proofs.held.end_of.Tie as tie
 
 returns : tie.Need-returns
 returns c = rw (eq-eqb _ 7 (c .if1 .taken))

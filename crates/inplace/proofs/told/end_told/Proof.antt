@@ -1,7 +1,7 @@
 -- `end_told` meets its contract.
 use borrow.Author.Needs.{needs}
-use Rattle.inplace.proofs.end_told.Statement.{statement}
-use Rattle.inplace.proofs.end_told.Tie as tie
+use Rattle.inplace.proofs.told.end_told.Statement.{statement}
+use Rattle.inplace.proofs.told.end_told.Tie as tie
 
 enum-known-e : tie.Need-enum-known-e
 enum-known-e c = search needs

@@ -1,7 +1,7 @@
 -- `run_of` meets its contract.
 use borrow.Author.Needs.{needs}
-use Rattle.inplace.proofs.run_of.Statement.{statement}
-use Rattle.inplace.proofs.run_of.Tie as tie
+use Rattle.inplace.proofs.held.run_of.Statement.{statement}
+use Rattle.inplace.proofs.held.run_of.Tie as tie
 
 stage-of-requires : tie.Need-stage-of-requires
 stage-of-requires c κs = search needs
