@@ -160,9 +160,9 @@ fn give_held(
         streams,
         rows,
     );
-    let run = g.run;
+    let after = g.run;
     let answer = g.answer;
-    let held = held::held_of(run);
+    let held = held::held_of(after);
     let told = told::told_of(answer);
     Stepped {
         held: held,
