@@ -36,6 +36,7 @@ use Rattle.inplace.specs.declared.held.Held.{Held}
 use Rattle.inplace.specs.declared.told.Told.{Told}
 use Rattle.inplace.specs.Held.{runOf, heldOf, marked}
 use Rattle.inplace.specs.Told.{toldOf}
+use Rattle.inplace.proofs.HeldLaws.{run-back}
 use Rattle.inplace.specs.Calls.{planOf, BeginsInPlace, GivesInPlace}
 
 -- ---- numbers
@@ -63,6 +64,13 @@ module _ (s : Cols) (lengths : List ℕ) (l : Lent) where
   zeros-refused b = rw zeros-wrong
 
 -- ---- "run unchanged"
+
+-- what stands in place after a start, and memory of zeros, is kept as every call keeps a run
+pub begun-kept : (p : Plan) (n : ℕ) (h : Held) → BeginsInPlace p n h → h ≡ heldOf (runOf h)
+begun-kept p n h f = f .held ∙ ap heldOf (sym (run-back (startOf p .run)) ∙ ap runOf (sym (f .held)))
+
+pub zeros-kept : zeros ≡ heldOf (runOf zeros)
+zeros-kept = refl
 
 by-refused : (t : Reply) (x : Refusal) (b : Base) (h : Heads) (r : Run) (q : Ring) → t ≡ refused x → runBy t b h r q ≡ r
 by-refused t x b h r q e = rw e
