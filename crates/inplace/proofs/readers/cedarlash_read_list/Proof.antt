@@ -1,0 +1,28 @@
+-- `cedarlash_read_list` meets its contract.
+use borrow.Author.Needs.{needs}
+use Rattle.inplace.proofs.HeldLaws.{tallies-so}
+use Rattle.inplace.proofs.readers.cedarlash_read_list.Statement.{statement}
+use Rattle.inplace.proofs.readers.cedarlash_read_list.Tie as tie
+
+read-list-requires : tie.Need-read-list-requires
+read-list-requires c κs = search needs
+
+tally-of-requires : tie.Need-tally-of-requires
+tally-of-requires c κs = search needs
+
+same-length : tie.Need-same-length
+same-length c = search needs
+
+same-length-2 : tie.Need-same-length-2
+same-length-2 c = search needs
+
+same-length-3 : tie.Need-same-length-3
+same-length-3 c = search needs
+
+returns : tie.Need-returns
+returns c = tallies-so (c .before .before .before .before .before .before .before .read-list .ensures) (c .tally-of .ensures)
+
+pub cedarlash-read-list-spec : {M : Type 1} → statement M
+cedarlash-read-list-spec =
+    tie.close
+    (tie.spec read-list-requires tally-of-requires same-length same-length-2 same-length-3 returns)

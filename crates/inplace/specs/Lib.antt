@@ -1,0 +1,5 @@
+-- A run and an answer in numbers, and what the calls for hosts say.
+pub mod Held
+pub mod Told
+pub mod Calls
+pub mod Tally
