@@ -20,7 +20,5 @@ pub fn list(text: &[u8], ends: &[usize], out: &mut [u8]) -> Listing {
     // may be read (and, for `out`, written) for the whole call. `out` is borrowed mutably, so it shares no byte with the
     // other two. The function keeps no pointer, and its proof says that it touches nothing outside the three slices and
     // comes back for every content. `Listing` has the layout that the archive's own `#[repr(C)]` struct has.
-    unsafe {
-        cedarlash_list(text.as_ptr(), text.len(), ends.as_ptr(), ends.len(), out.as_mut_ptr(), out.len())
-    }
+    unsafe { cedarlash_list(text.as_ptr(), text.len(), ends.as_ptr(), ends.len(), out.as_mut_ptr(), out.len()) }
 }

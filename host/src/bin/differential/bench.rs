@@ -71,8 +71,6 @@ pub struct Bench {
     pub differences: Vec<Difference>,
 }
 
-/// So many differences are kept to be made small and printed; the others are counted.
-const KEPT: usize = 5;
 /// Bytes around each lent slice that must neither matter nor change.
 const AROUND: usize = 23;
 const BEHIND: &[u8; AROUND] = b"9\t1\n0\ta\t0\t9\na\t0\t1\n#\t\n7\n";
@@ -97,18 +95,23 @@ impl Bench {
         self.count(&lines, wanted.listing);
         // The call over separate texts joins them and makes the same call, so one time in eight is enough.
         let same = outcome(self.subject, text, ends, bytes) == wanted;
-        if same && (self.tally.calls % 8 != 0 || by_texts(self.subject, text, ends, &wanted)) {
+        if same && (!self.tally.calls.is_multiple_of(8) || by_texts(self.subject, text, ends, &wanted)) {
             return Ok(());
         }
         self.tally.differences += 1;
-        if self.differences.len() < KEPT {
+        // The first of each family is made small and printed; the others are counted.
+        if self.differences.iter().all(|d| d.family != self.family) {
             let room = if room == Room::Ample { room } else { Room::Bytes(bytes) };
             self.differences.push(Difference {
                 family: self.family,
                 case: Case { text: text.to_vec(), ends: ends.to_vec(), room },
             });
         }
-        if self.first_only { Err(Stop) } else { Ok(()) }
+        if self.first_only {
+            Err(Stop)
+        } else {
+            Ok(())
+        }
     }
 
     /// Counts one call by the witness's lines.
@@ -129,7 +132,8 @@ impl Bench {
 
 /// The number of an X line and, for a fault before the run, its text (2 for every stream).
 fn refusal(line: &[u8]) -> (u64, Option<usize>) {
-    let fields: Vec<usize> = line.split(|&b| b == b'\t' || b == b'\n').filter_map(|f| std::str::from_utf8(f).ok()?.parse().ok()).collect();
+    let fields: Vec<usize> =
+        line.split(|&b| b == b'\t' || b == b'\n').filter_map(|f| std::str::from_utf8(f).ok()?.parse().ok()).collect();
     match fields[0] {
         n @ (1 | 2 | 11 | 12) => (n as u64, Some(fields[1].min(2))),
         n => (n as u64, None),
@@ -163,7 +167,8 @@ fn outcome(subject: Subject, text: &[u8], ends: &[usize], bytes: usize) -> Outco
     let more = [&[1, 2, 3][..], ends, &[text.len(); 9]].concat();
     let mut out = pattern(bytes + 2 * AROUND);
     out[AROUND..AROUND + bytes].copy_from_slice(&pattern(bytes));
-    let listing = (subject.raw)(&texts[AROUND..AROUND + text.len()], &more[3..3 + ends.len()], &mut out[AROUND..AROUND + bytes]);
+    let listing =
+        (subject.raw)(&texts[AROUND..AROUND + text.len()], &more[3..3 + ends.len()], &mut out[AROUND..AROUND + bytes]);
     let around = pattern(bytes + 2 * AROUND);
     let kept = out[..AROUND] == around[..AROUND]
         && out[AROUND + bytes..] == around[AROUND + bytes..]

@@ -38,7 +38,8 @@ pub fn texts(b: &mut Bench) -> Held {
     let most = if deep() { 6 } else { 4 };
     let pieces: &[&[u8]] = &[b"a", b"1\t1\n", b"0\n", b"\n", b"\t", b"#", b"1", b"a\n", b"18446744073709551615", b" "];
     each(pieces, most, &mut |t| b.texts(&[t, b"a\t0\t1\n1\t0\t2", rows], Room::Ample))?;
-    let pieces: &[&[u8]] = &[b"a\t0\t1\n", b"a\t1\t", b"1\t1\t0\n", b"1\t0\t2\n", b"z\t0\t0\n", b"0", b"1\n", b"\t", b"\n", b"#"];
+    let pieces: &[&[u8]] =
+        &[b"a\t0\t1\n", b"a\t1\t", b"1\t1\t0\n", b"1\t0\t2\n", b"z\t0\t0\n", b"0", b"1\n", b"\t", b"\n", b"#"];
     each(pieces, most, &mut |t| b.texts(&[list, t, rows], Room::Ample))?;
     each(pieces, most, &mut |t| b.texts(&[list, b"a\t0\t1\n1\t0\t1\n1\t1\t1", t], Room::Ample))
 }
@@ -59,7 +60,17 @@ pub fn grid(b: &mut Bench) -> Held {
     // One chromosome, coordinates 0 to 3.
     jobs(b, b"a\t3\n", &line(3, deep()))?;
     // Two chromosomes, one of length 1, and one that is not on the list.
-    let rows = ["a\t0\t0\n", "a\t0\t1\n", "a\t1\t1\n", "a\t0\t2\n", "b\t0\t0\n", "b\t0\t1\n", "b\t1\t2\n", "b\t1\t0\n", "z\t0\t1\n"];
+    let rows = [
+        "a\t0\t0\n",
+        "a\t0\t1\n",
+        "a\t1\t1\n",
+        "a\t0\t2\n",
+        "b\t0\t0\n",
+        "b\t0\t1\n",
+        "b\t1\t2\n",
+        "b\t1\t0\n",
+        "z\t0\t1\n",
+    ];
     let rows: Vec<Vec<u8>> = rows.iter().map(|r| r.as_bytes().to_vec()).collect();
     jobs(b, b"a\t1\nb\n", &rows)
 }
@@ -72,7 +83,8 @@ fn jobs(b: &mut Bench, list: &[u8], rows: &[Vec<u8>]) -> Held {
         each(&rows, 3, &mut |records| {
             b.texts(&[list, bases, records], Room::Ample)?;
             let count = records.len() / width;
-            (0..count).try_for_each(|k| b.texts(&[list, bases, &records[..k * width], &records[k * width..]], Room::Ample))
+            (0..count)
+                .try_for_each(|k| b.texts(&[list, bases, &records[..k * width], &records[k * width..]], Room::Ample))
         })
     })
 }

@@ -56,9 +56,17 @@ pub fn paper(b: &mut Bench) -> Held {
         &[LIST, "one 0 5\none 25 35\none 32 60\n", "one 0 100\none 10 20\none 30 40\none 50 60\n"],
         "B one 0 5 1\nR 0 0 0 100\nB one 25 35 2\nR 0 0 0 100\nR 0 2 30 40\nB one 32 60 3\nR 0 0 0 100\nR 0 2 30 40\nR 0 3 50 60\n",
     )?;
-    hold(b, &[LIST, "one 0 100\none 1 2\n", "one 10 12\none 50 60\n"], "B one 0 100 2\nR 0 0 10 12\nR 0 1 50 60\nB one 1 2 0\n")?;
+    hold(
+        b,
+        &[LIST, "one 0 100\none 1 2\n", "one 10 12\none 50 60\n"],
+        "B one 0 100 2\nR 0 0 10 12\nR 0 1 50 60\nB one 1 2 0\n",
+    )?;
     hold(b, &[LIST, "two 0 10\n", "two 100011 100020\n"], "B two 0 10 0\n")?;
-    hold(b, &[LIST, "two 0 10\ntwo 60 70\n", "two 5 50\ntwo 200000 200010\ntwo 900000 900010\n"], "B two 0 10 1\nR 0 0 5 50\nB two 60 70 0\n")?;
+    hold(
+        b,
+        &[LIST, "two 0 10\ntwo 60 70\n", "two 5 50\ntwo 200000 200010\ntwo 900000 900010\n"],
+        "B two 0 10 1\nR 0 0 5 50\nB two 60 70 0\n",
+    )?;
     hold(b, &[LIST, "two 0 10\n", "two 5 9\none 10 12\n"], "X 8 0 0 1\n")
 }
 
@@ -119,7 +127,11 @@ fn names(b: &mut Bench) -> Held {
     hold(b, &["a 5\nb\na 7\n", "a 0 1\n", ""], "X 2 0 0\n")?;
     hold(b, &["a\n 5\n", "a 0 1\n", ""], "X 2 0 0\n")?;
     // A name is the whole field.
-    hold(b, &["a\nab\nabc\n", "ab 0 1\nabc 0 1\nabcd 0 1\nb 0 1\n", "a 0 1\nab 0 1\nabc 0 2\n"], "B ab 0 1 1\nR 0 1 0 1\nB abc 0 1 1\nR 0 2 0 2\nX 4 2\nX 4 3\n")?;
+    hold(
+        b,
+        &["a\nab\nabc\n", "ab 0 1\nabc 0 1\nabcd 0 1\nb 0 1\n", "a 0 1\nab 0 1\nabc 0 2\n"],
+        "B ab 0 1 1\nR 0 1 0 1\nB abc 0 1 1\nR 0 2 0 2\nX 4 2\nX 4 3\n",
+    )?;
     let bytes: Vec<u8> = (0..=255).filter(|b| !b"\t\n#".contains(b)).collect();
     let base = [&bytes[..], b"\t0\t9\n"].concat();
     let answer = [b"B\t", &bytes[..], b"\t0\t9\t1\nR\t0\t0\t0\t9\n"].concat();
@@ -128,7 +140,18 @@ fn names(b: &mut Bench) -> Held {
 
 /// Numbers: 0, the largest, one more, and how many digits.
 fn numbers(b: &mut Bench) -> Held {
-    let good = ["0", "7", "00", "007", "9999999999999999999", "10000000000000000000", "18446744073709551614", "18446744073709551615", "00000000000000000000", "00000000000000000012"];
+    let good = [
+        "0",
+        "7",
+        "00",
+        "007",
+        "9999999999999999999",
+        "10000000000000000000",
+        "18446744073709551614",
+        "18446744073709551615",
+        "00000000000000000000",
+        "00000000000000000012",
+    ];
     for text in good {
         let n: u64 = text.parse().expect("a good number");
         hold(b, &["a", &format!("a 0 {text}"), ""], &format!("B a 0 {n} 0\n"))?;
@@ -137,9 +160,41 @@ fn numbers(b: &mut Bench) -> Held {
         let record = format!("a 0 18446744073709551615\na {text} {text}");
         let found = if n == 0 || n == u64::MAX { String::new() } else { format!("R 0 1 {n} {n}\n") };
         let count = 1 + usize::from(!found.is_empty());
-        hold(b, &["a", "a 0 18446744073709551615", &record], &format!("B a 0 18446744073709551615 {count}\nR 0 0 0 18446744073709551615\n{found}"))?;
+        hold(
+            b,
+            &["a", "a 0 18446744073709551615", &record],
+            &format!("B a 0 18446744073709551615 {count}\nR 0 0 0 18446744073709551615\n{found}"),
+        )?;
     }
-    let bad = ["", "18446744073709551616", "18446744073709551620", "18446744073709551625", "20000000000000000000", "99999999999999999999", "000000000000000000000", "000000000000000000001", "100000000000000000000", "184467440737095516150", "340282366920938463463374607431768211456", "-1", "+1", "0x1", "1_0", "1.0", "1e3", "a", "1a", "a1", "/", ":", "1/", "1:", "1\r", "\u{661}", "1,0"];
+    let bad = [
+        "",
+        "18446744073709551616",
+        "18446744073709551620",
+        "18446744073709551625",
+        "20000000000000000000",
+        "99999999999999999999",
+        "000000000000000000000",
+        "000000000000000000001",
+        "100000000000000000000",
+        "184467440737095516150",
+        "340282366920938463463374607431768211456",
+        "-1",
+        "+1",
+        "0x1",
+        "1_0",
+        "1.0",
+        "1e3",
+        "a",
+        "1a",
+        "a1",
+        "/",
+        ":",
+        "1/",
+        "1:",
+        "1\r",
+        "\u{661}",
+        "1,0",
+    ];
     for text in bad {
         hold(b, &["a", &format!("a 0 1\na 0 {text}"), ""], "X 11 1 1\n")?;
         hold(b, &["a", &format!("a {text} 1"), ""], "X 11 1 0\n")?;
@@ -148,7 +203,11 @@ fn numbers(b: &mut Bench) -> Held {
         hold(b, &[&format!("a\nb {text}"), "a 0 1", ""], "X 11 0 1\n")?;
     }
     let top = "18446744073709551615";
-    hold(b, &[&format!("a {top}"), &format!("a 0 {top}\na {top} {top}"), &format!("a 0 {top}\na {top} {top}")], &format!("B a 0 {top} 1\nR 0 0 0 {top}\nB a {top} {top} 0\n"))?;
+    hold(
+        b,
+        &[&format!("a {top}"), &format!("a 0 {top}\na {top} {top}"), &format!("a 0 {top}\na {top} {top}")],
+        &format!("B a 0 {top} 1\nR 0 0 0 {top}\nB a {top} {top} 0\n"),
+    )?;
     hold(b, &["a 0", "a 0 0\na 0 1", ""], "B a 0 0 0\nX 3 1\n")
 }
 
@@ -204,7 +263,11 @@ fn forms(b: &mut Bench) -> Held {
     hold(b, &["a", "", "z 9 1\na 5 6\na 0 1\n"], "")?;
     // BED v1's spaces part nothing here, and a carriage return is a byte like others.
     hold_bytes(b, &[b"a b\r\n".to_vec(), b"a b\r\t0\t9".to_vec(), b"a b\t5\t6".to_vec()], b"X\t7\t0\t0\t0\n")?;
-    hold_bytes(b, &[b"a b\r\n".to_vec(), b"a b\r\t0\t9".to_vec(), b"a b\r\t5\t6".to_vec()], b"B\ta b\r\t0\t9\t1\nR\t0\t0\t5\t6\n")?;
+    hold_bytes(
+        b,
+        &[b"a b\r\n".to_vec(), b"a b\r\t0\t9".to_vec(), b"a b\r\t5\t6".to_vec()],
+        b"B\ta b\r\t0\t9\t1\nR\t0\t0\t5\t6\n",
+    )?;
     hold_bytes(b, &[b"a".to_vec(), b"a 0 9\n".to_vec(), vec![]], b"X\t11\t1\t0\n")?;
     hold_bytes(b, &[b"a".to_vec(), b"a\t0\t9\r\n".to_vec(), vec![]], b"X\t11\t1\t0\n")?;
     hold_bytes(b, &[b"a".to_vec(), b"\r\n".to_vec(), vec![]], b"X\t11\t1\t0\n")
@@ -238,24 +301,52 @@ fn order_before(b: &mut Bench) -> Held {
 fn order_in_run(b: &mut Bench) -> Held {
     let list = "one 1000\ntwo\nthree 10";
     // 4, 6, 3, 5
-    hold(b, &[list, "z 9 1\none 2000 1500\none 5 9\none 0 1001\none 0 4", ""], "X 4 0\nX 6 1\nB one 5 9 0\nX 3 3\nX 5 4\n")?;
-    hold(b, &[list, "one 900 1001\none 5 9\none 4 3\none 4 1001\nz 0 0", ""], "X 3 0\nB one 5 9 0\nX 6 2\nX 3 3\nX 4 4\n")?;
+    hold(
+        b,
+        &[list, "z 9 1\none 2000 1500\none 5 9\none 0 1001\none 0 4", ""],
+        "X 4 0\nX 6 1\nB one 5 9 0\nX 3 3\nX 5 4\n",
+    )?;
+    hold(
+        b,
+        &[list, "one 900 1001\none 5 9\none 4 3\none 4 1001\nz 0 0", ""],
+        "X 3 0\nB one 5 9 0\nX 6 2\nX 3 3\nX 4 4\n",
+    )?;
     // 5 is measured from the last accepted base: refused ones don't move it.
-    hold(b, &[list, "one 5 9\none 900 1001\none 6 9\ntwo 7 6\none 6 10\none 6 9", ""], "B one 5 9 0\nX 3 1\nB one 6 9 0\nX 6 3\nB one 6 10 0\nX 5 5\n")?;
-    hold(b, &[list, "two 5 9\none 5 9\ntwo 5 8\ntwo 4 9\ntwo 5 9\nthree 0 1\ntwo 6 6", ""], "B two 5 9 0\nX 5 1\nX 5 2\nX 5 3\nB two 5 9 0\nB three 0 1 0\nX 5 6\n")?;
+    hold(
+        b,
+        &[list, "one 5 9\none 900 1001\none 6 9\ntwo 7 6\none 6 10\none 6 9", ""],
+        "B one 5 9 0\nX 3 1\nB one 6 9 0\nX 6 3\nB one 6 10 0\nX 5 5\n",
+    )?;
+    hold(
+        b,
+        &[list, "two 5 9\none 5 9\ntwo 5 8\ntwo 4 9\ntwo 5 9\nthree 0 1\ntwo 6 6", ""],
+        "B two 5 9 0\nX 5 1\nX 5 2\nX 5 3\nB two 5 9 0\nB three 0 1 0\nX 5 6\n",
+    )?;
     // Refused bases load nothing; heads are loaded and judged at the first accepted one, stream 0 first.
-    hold(b, &[list, "z 0 1\none 9 8\none 0 1001\none 0 1\none 0 1", "", "one 5 4", "z 0 0"], "X 4 0\nX 6 1\nX 3 2\nX 7 3 1 0\n")?;
+    hold(
+        b,
+        &[list, "z 0 1\none 9 8\none 0 1001\none 0 1\none 0 1", "", "one 5 4", "z 0 0"],
+        "X 4 0\nX 6 1\nX 3 2\nX 7 3 1 0\n",
+    )?;
     hold(b, &[list, "z 0 1\none 9 8", "", "one 5 4", "z 0 0"], "X 4 0\nX 6 1\n")?;
     // A fault shows when the row ahead of it is taken, not sooner, and 7 before 8.
     hold(b, &[list, "one 0 5\none 0 6\none 0 7", "one 5 9\nz 0 0"], "B one 0 5 0\nX 7 1 0 1\n")?;
-    hold(b, &[list, "one 0 5\none 5 5\none 0 7\none 5 6", "one 5 9\none 5 9\none 4 9"], "B one 0 5 0\nB one 5 5 0\nX 5 2\nX 8 3 0 2\n")?;
+    hold(
+        b,
+        &[list, "one 0 5\none 5 5\none 0 7\none 5 6", "one 5 9\none 5 9\none 4 9"],
+        "B one 0 5 0\nB one 5 5 0\nX 5 2\nX 8 3 0 2\n",
+    )?;
     hold(b, &[list, "two 0 5\ntwo 5 9", "two 5 9\none 6 5\n"], "B two 0 5 0\nX 7 1 0 1\n")?;
     hold(b, &[list, "one 0 9", "one 5 9\ntwo 3 2"], "X 7 0 0 1\n")?;
     hold(b, &[list, "one 0 9", "one 5 9\none 4 6"], "X 8 0 0 1\n")?;
     hold(b, &[list, "one 0 9", "one 5 9\none 5 6"], "B one 0 9 2\nR 0 0 5 9\nR 0 1 5 6\n")?;
     hold(b, &[list, "one 0 9\ntwo 0 9", "two 9 9\nz 0 0", "one 9 9\none 8 9"], "B one 0 9 0\nX 8 1 1 1\n")?;
     // Chromosomes passed by: their faults are met, their records are not.
-    hold(b, &[list, "three 0 9\n", "one 5 9\ntwo 5 9\nthree 5 9\nthree 9 9", "two 0 9\nthree 0 9\n"], "B three 0 9 2\nR 1 1 0 9\nR 0 2 5 9\n")?;
+    hold(
+        b,
+        &[list, "three 0 9\n", "one 5 9\ntwo 5 9\nthree 5 9\nthree 9 9", "two 0 9\nthree 0 9\n"],
+        "B three 0 9 2\nR 1 1 0 9\nR 0 2 5 9\n",
+    )?;
     hold(b, &[list, "three 0 9\n", "one 5 9\ntwo 5 9\none 5 9"], "X 8 0 0 2\n")?;
     hold(b, &[list, "one 0 9\n", "two 5 9\none 5 9"], "B one 0 9 0\n")?;
     // A record on the list's last chromosome and a stop past a known length are fine for a stream.
@@ -273,9 +364,21 @@ fn nines(b: &mut Bench) -> Held {
     hold(b, &["a", "a 1 2\n", &full, "a 0 1"], &format!("B a 1 2 1024\n{}", found(0, 1024, "0 9")))?;
     hold(b, &["a", "a 2 3\n", &full, "a 1 2\na 2 2"], &format!("B a 2 3 1024\n{}", found(0, 1024, "0 9")))?;
     hold(b, &["a", "a 2 3\n", &full, "a 1 2\na 2 3"], "X 9 0\n")?;
-    hold(b, &["a", "a 0 1\na 9 10", &full, "a 5 20"], &format!("B a 0 1 1024\n{}B a 9 10 1\nR 1 0 5 20\n", found(0, 1024, "0 9")))?;
-    hold(b, &["a", "a 0 1\na 8 10\na 9 10", &full, "a 5 20"], &format!("B a 0 1 1024\n{}X 9 1\n", found(0, 1024, "0 9")))?;
-    hold(b, &["a", "a 0 9\na 1 2\na 8 10", &many(1024, "a 5 9"), "a 9 20"], &format!("B a 0 9 1024\n{}B a 1 2 0\nX 9 2\n", found(0, 1024, "5 9")))?;
+    hold(
+        b,
+        &["a", "a 0 1\na 9 10", &full, "a 5 20"],
+        &format!("B a 0 1 1024\n{}B a 9 10 1\nR 1 0 5 20\n", found(0, 1024, "0 9")),
+    )?;
+    hold(
+        b,
+        &["a", "a 0 1\na 8 10\na 9 10", &full, "a 5 20"],
+        &format!("B a 0 1 1024\n{}X 9 1\n", found(0, 1024, "0 9")),
+    )?;
+    hold(
+        b,
+        &["a", "a 0 9\na 1 2\na 8 10", &many(1024, "a 5 9"), "a 9 20"],
+        &format!("B a 0 9 1024\n{}B a 1 2 0\nX 9 2\n", found(0, 1024, "5 9")),
+    )?;
     // Expired records take no room wherever they stand: here behind one that is still live.
     let behind = "a 0 90\n".to_string() + &many(1023, "a 0 9");
     let first = "B a 0 1 1024\nR 0 0 0 90\n".to_string() + &lines(1023, |i| format!("R 0 {} 0 9", i + 1));
@@ -283,7 +386,11 @@ fn nines(b: &mut Bench) -> Held {
     hold(b, &["a", "a 0 1\na 50 60", &behind, &many(1023, "a 50 51")], &answer)?;
     hold(b, &["a", "a 0 1\na 50 60", &behind, &many(1024, "a 50 51")], &format!("{first}X 9 1\n"))?;
     // Another chromosome's records take no room either.
-    hold(b, &["a\nb", "a 0 1\nb 0 1", &full, &many(1024, "b 0 9")], &format!("B a 0 1 1024\n{}B b 0 1 1024\n{}", found(0, 1024, "0 9"), found(1, 1024, "0 9")))?;
+    hold(
+        b,
+        &["a\nb", "a 0 1\nb 0 1", &full, &many(1024, "b 0 9")],
+        &format!("B a 0 1 1024\n{}B b 0 1 1024\n{}", found(0, 1024, "0 9"), found(1, 1024, "0 9")),
+    )?;
     // The fault of a successor comes before the room.
     hold(b, &["a", "a 0 1", &full, "a 0 9\na 5 4"], "X 7 0 1 1\n")?;
     hold(b, &["a", "a 5 6", &many(1024, "a 5 9"), "a 5 9\na 4 9"], "X 8 0 1 1\n")
@@ -301,13 +408,28 @@ fn longest(b: &mut Bench) -> Held {
 pub fn bad_ends(b: &mut Bench) -> Held {
     let text = b"a\na\t0\t9\na\t5\t6\na\t7\t8\n";
     let n = text.len();
-    for ends in [vec![2, 8, n], vec![2, 8, 14, n], vec![0, 0, n], vec![2, 2, n], vec![2, n, n], vec![n, n, n], vec![2, 8, 8, 14, n, n]] {
+    for ends in [
+        vec![2, 8, n],
+        vec![2, 8, 14, n],
+        vec![0, 0, n],
+        vec![2, 2, n],
+        vec![2, n, n],
+        vec![n, n, n],
+        vec![2, 8, 8, 14, n, n],
+    ] {
         b.ends(text, &ends, Room::Ample)?;
     }
     let far = [usize::MAX, usize::MAX - 1, 1 << 63, 1 << 32, n + 1, n + 2, n - 1, 0];
-    let mut bad = vec![vec![], vec![n], vec![2, n], vec![0, n], vec![8, 2, n], vec![2, 8, 7, n], vec![n, 0, n], vec![2, 8, 0]];
+    let mut bad =
+        vec![vec![], vec![n], vec![2, n], vec![0, n], vec![8, 2, n], vec![2, 8, 7, n], vec![n, 0, n], vec![2, 8, 0]];
     for f in far {
-        bad.extend([vec![2, 8, f], vec![2, f, if f == 0 { 1 } else { f }], vec![f, f, f], vec![2, 8, n, f], vec![f, 8, 1]]);
+        bad.extend([
+            vec![2, 8, f],
+            vec![2, f, if f == 0 { 1 } else { f }],
+            vec![f, f, f],
+            vec![2, 8, n, f],
+            vec![f, 8, 1],
+        ]);
         if f > n {
             bad.extend([vec![2, f, n], vec![f, 8, n], vec![f]]);
         }
@@ -360,7 +482,10 @@ pub fn recorded(b: &mut Bench) -> Held {
         let texts: Vec<&[u8]> = texts.iter().map(Vec::as_slice).collect();
         let (text, ends) = join(texts[0], texts[1], &texts[2..]);
         let listing = paper::lines(&text, &ends);
-        assert!(grouped(listing) == grouped(tabs(&wanted).split_inclusive(|&b| b == b'\n').map(<[u8]>::to_vec).collect()), "the witness leaves the Rust's answer: {line}");
+        assert!(
+            grouped(listing) == grouped(tabs(&wanted).split_inclusive(|&b| b == b'\n').map(<[u8]>::to_vec).collect()),
+            "the witness leaves the Rust's answer: {line}"
+        );
         b.ends(&text, &ends, Room::Ample)?;
     }
     Ok(())
@@ -373,7 +498,11 @@ fn grouped(mut lines: Vec<Vec<u8>>) -> Vec<Vec<u8>> {
         String::from_utf8_lossy(field).parse().expect("a number")
     };
     let group = |a: &Vec<u8>, b: &Vec<u8>| a[0] == b'R' && b[0] == b'R' && field(a, 3) == field(b, 3);
-    lines.chunk_by_mut(group).for_each(|of| if of[0][0] == b'R' { of.sort_by_key(|l| (field(l, 1), field(l, 2))) });
+    lines.chunk_by_mut(group).for_each(|of| {
+        if of[0][0] == b'R' {
+            of.sort_by_key(|l| (field(l, 1), field(l, 2)))
+        }
+    });
     lines
 }
 

@@ -38,14 +38,38 @@ pub struct Family {
 
 /// All families, the quick ones first.
 pub const FAMILIES: &[Family] = &[
-    Family { name: "paper", what: "01's example and boundary cases, with the listing written out by hand", run: fixed::paper },
-    Family { name: "edges", what: "each size at its limit and one past it, with the listing written out by hand", run: fixed::edges },
+    Family {
+        name: "paper",
+        what: "01's example and boundary cases, with the listing written out by hand",
+        run: fixed::paper,
+    },
+    Family {
+        name: "edges",
+        what: "each size at its limit and one past it, with the listing written out by hand",
+        run: fixed::edges,
+    },
     Family { name: "ends", what: "bad ends: falling, short, past the text, too few, too many", run: fixed::bad_ends },
-    Family { name: "recorded", what: "the jobs recorded from the Rust that is ported, with its answers", run: fixed::recorded },
+    Family {
+        name: "recorded",
+        what: "the jobs recorded from the Rust that is ported, with its answers",
+        run: fixed::recorded,
+    },
     Family { name: "buffers", what: "every buffer length from 0 to one more than the listing", run: fixed::buffers },
-    Family { name: "queue", what: "more than a thousand records that wait: 1,024 live ones and one more", run: random::queue },
-    Family { name: "texts", what: "every short text, by bytes and by pieces, as list, bases and stream", run: exhaustive::texts },
-    Family { name: "grid", what: "every job of up to 2 bases and 3 records in one or two streams on a short line", run: exhaustive::grid },
+    Family {
+        name: "queue",
+        what: "more than a thousand records that wait: 1,024 live ones and one more",
+        run: random::queue,
+    },
+    Family {
+        name: "texts",
+        what: "every short text, by bytes and by pieces, as list, bases and stream",
+        run: exhaustive::texts,
+    },
+    Family {
+        name: "grid",
+        what: "every job of up to 2 bases and 3 records in one or two streams on a short line",
+        run: exhaustive::grid,
+    },
     Family { name: "random", what: "random jobs, valid and damaged", run: random::jobs },
     Family { name: "large", what: "random jobs of many rows", run: random::large },
     Family { name: "fuzz", what: "random bytes and mutated jobs, for a fixed time", run: fuzz::bytes },

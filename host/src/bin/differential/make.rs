@@ -4,7 +4,8 @@ use crate::rng::Rng;
 
 /// Rows crowd around one of these points, so that ends meet.
 const POINTS: &[u64] = &[0, 0, 0, 3, 95, 100, 990, 99_990, 1 << 32, (1 << 63) - 4, u64::MAX - 5, u64::MAX - 40];
-const NAMES: &[&str] = &["a", "b", "ab", "abc", "one", "two", "chr1", "chr2", "chrX", "x y", "\u{e9}", "-", "a#", "0", "A", "a\r"];
+const NAMES: &[&str] =
+    &["a", "b", "ab", "abc", "one", "two", "chr1", "chr2", "chrX", "x y", "\u{e9}", "-", "a#", "0", "A", "a\r"];
 
 /// What the rows of one job have in common.
 struct Shape {
@@ -49,7 +50,11 @@ fn name(rng: &mut Rng, i: usize) -> Vec<u8> {
         let long = if rng.one_in(2) { 253 } else { rng.from(2, 250) };
         return format!("{i:02}{}", "n".repeat(long)).into_bytes();
     }
-    if i < 4 { NAMES[(i * 5 + rng.below(4)) % NAMES.len()].into() } else { format!("c{i}").into_bytes() }
+    if i < 4 {
+        NAMES[(i * 5 + rng.below(4)) % NAMES.len()].into()
+    } else {
+        format!("c{i}").into_bytes()
+    }
 }
 
 /// The chromosome list, with a length for some. `names` is what the rows then use.
@@ -80,7 +85,11 @@ fn list(rng: &mut Rng, names: &mut [Vec<u8>], damage: usize) -> Vec<u8> {
 fn text(rng: &mut Rng, shape: &Shape, count: usize, bases: bool, damage: usize) -> Vec<u8> {
     let mut rows: Vec<Row> = (0..count).map(|_| row(rng, shape)).collect();
     // Streams leave the stop free; bases don't.
-    if bases { rows.sort() } else { rows.sort_by_key(|r| (r.0, r.1)) }
+    if bases {
+        rows.sort()
+    } else {
+        rows.sort_by_key(|r| (r.0, r.1))
+    }
     if shape.faulty > 0 {
         for i in 0..rows.len() {
             if rng.one_in(shape.faulty) {
@@ -115,7 +124,11 @@ fn row(rng: &mut Rng, shape: &Shape) -> Row {
 }
 
 fn line(rng: &mut Rng, shape: &Shape, &(chrom, start, stop): &Row) -> Vec<u8> {
-    let mut line = shape.names.get(chrom).cloned().unwrap_or_else(|| rng.piece(&[b"z", b"aa", b"on", b" ", b"A", b"One"]).to_vec());
+    let mut line = shape
+        .names
+        .get(chrom)
+        .cloned()
+        .unwrap_or_else(|| rng.piece(&[b"z", b"aa", b"on", b" ", b"A", b"One"]).to_vec());
     for n in [start, stop] {
         let width = if rng.one_in(30) { rng.from(1, 20) } else { 0 };
         line.extend(format!("\t{n:0width$}").bytes());
@@ -129,7 +142,16 @@ fn line(rng: &mut Rng, shape: &Shape, &(chrom, start, stop): &Row) -> Vec<u8> {
 /// A line that can't be read, mostly.
 fn broken(rng: &mut Rng, line: &[u8]) -> Vec<u8> {
     let fields: Vec<&[u8]> = line.split(|&b| b == b'\t').collect();
-    let past = rng.piece(&[b"", b"18446744073709551616", b"000000000000000000000", b"-1", b"1x", b" 1", b"1\r", b"99999999999999999999"]);
+    let past = rng.piece(&[
+        b"",
+        b"18446744073709551616",
+        b"000000000000000000000",
+        b"-1",
+        b"1x",
+        b" 1",
+        b"1\r",
+        b"99999999999999999999",
+    ]);
     match rng.below(6) {
         0 => fields[..2].join(&b'\t'),
         1 => fields[0].to_vec(),

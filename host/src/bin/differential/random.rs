@@ -6,7 +6,11 @@ use crate::rng::Rng;
 
 /// How the buffer is chosen: mostly ample.
 fn room(rng: &mut Rng) -> Room {
-    if rng.one_in(6) { Room::Some(rng.next()) } else { Room::Ample }
+    if rng.one_in(6) {
+        Room::Some(rng.next())
+    } else {
+        Room::Ample
+    }
 }
 
 /// Small jobs, a quarter of them valid.

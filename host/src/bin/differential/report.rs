@@ -36,7 +36,8 @@ pub fn test(subject: Subject, names: &[String], page: bool) -> u8 {
         eprintln!("differential: no family '{name}'");
         return 2;
     }
-    let chosen: Vec<&Family> = FAMILIES.iter().filter(|f| names.is_empty() || names.iter().any(|n| n == f.name)).collect();
+    let chosen: Vec<&Family> =
+        FAMILIES.iter().filter(|f| names.is_empty() || names.iter().any(|n| n == f.name)).collect();
     let mut bench = Bench::new(subject, seed(), false);
     let mut rows = Vec::new();
     let begun = Instant::now();
@@ -132,7 +133,12 @@ fn tell(o: &Outcome) -> String {
     let length = o.listing.length.min(o.buffer.len());
     let shown = escape(&o.buffer[..length.min(1500)]);
     let behind = escape(&o.buffer[length..o.buffer.len().min(length + 8)]);
-    format!("number {} length {} listing {shown} then {behind}{}", o.listing.number, o.listing.length, if o.kept { "" } else { "; something outside the buffer changed" })
+    format!(
+        "number {} length {} listing {shown} then {behind}{}",
+        o.listing.number,
+        o.listing.length,
+        if o.kept { "" } else { "; something outside the buffer changed" }
+    )
 }
 
 /// The cases of the files, one a line. 0 if none differs.

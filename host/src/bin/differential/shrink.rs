@@ -73,7 +73,8 @@ impl Shrink {
     /// Where lines and texts begin, and the text's end.
     fn starts(&self) -> Vec<usize> {
         let text = &self.best.text;
-        let mut starts: Vec<usize> = (0..text.len()).filter(|&i| i == 0 || text[i - 1] == b'\n' || self.best.ends.contains(&i)).collect();
+        let mut starts: Vec<usize> =
+            (0..text.len()).filter(|&i| i == 0 || text[i - 1] == b'\n' || self.best.ends.contains(&i)).collect();
         starts.push(text.len());
         starts
     }
@@ -96,7 +97,8 @@ impl Shrink {
         let mut at = 0;
         while at < self.best.text.len().min(3000) {
             let digits = self.best.text[at..].iter().take_while(|b| b.is_ascii_digit()).count();
-            let number: Option<u128> = std::str::from_utf8(&self.best.text[at..at + digits]).ok().and_then(|t| t.parse().ok());
+            let number: Option<u128> =
+                std::str::from_utf8(&self.best.text[at..at + digits]).ok().and_then(|t| t.parse().ok());
             for less in number.iter().flat_map(|&n| [0, n / 2, n.saturating_sub(1)]) {
                 let less = less.to_string().into_bytes();
                 let stay = less.len() <= digits && less[..] < self.best.text[at..at + digits] || less.len() < digits;
