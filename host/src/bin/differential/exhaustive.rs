@@ -65,11 +65,11 @@ pub fn grid(b: &mut Bench) -> Held {
         "a\t0\t1\n",
         "a\t1\t1\n",
         "a\t0\t2\n",
-        "b\t0\t0\n",
+        "a\t1\t0\n",
         "b\t0\t1\n",
         "b\t1\t2\n",
         "b\t1\t0\n",
-        "z\t0\t1\n",
+        "z\t1\t0\n",
     ];
     let rows: Vec<Vec<u8>> = rows.iter().map(|r| r.as_bytes().to_vec()).collect();
     jobs(b, b"a\t1\nb\n", &rows)

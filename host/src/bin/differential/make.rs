@@ -93,10 +93,11 @@ fn text(rng: &mut Rng, shape: &Shape, count: usize, bases: bool, damage: usize) 
     if shape.faulty > 0 {
         for i in 0..rows.len() {
             if rng.one_in(shape.faulty) {
-                match rng.below(4) {
+                match rng.below(5) {
                     0 => rows[i] = (rows[i].0, rows[i].2, rows[i].1),
                     1 => rows[i].0 = shape.names.len(),
                     2 => rows[i] = row(rng, shape),
+                    3 => rows[i] = (shape.names.len(), rows[i].2, rows[i].1),
                     _ => rows.swap(i, 0),
                 }
             }
@@ -147,6 +148,7 @@ fn broken(rng: &mut Rng, line: &[u8]) -> Vec<u8> {
         b"18446744073709551616",
         b"000000000000000000000",
         b"-1",
+        b"+1",
         b"1x",
         b" 1",
         b"1\r",

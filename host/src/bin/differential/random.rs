@@ -66,7 +66,7 @@ pub fn queue(b: &mut Bench) -> Held {
         // In every other job all long records stand at the front, so that the room is just full, or not, for the rest.
         let front = n % 2 == 0;
         let long = if front { rng.from(1021, 1026) } else { rng.from(980, 1060) };
-        let total = long + rng.from(20, streams * 1000 - long);
+        let total = long + if front { rng.from(5, 60) } else { rng.from(20, streams * 1000 - long) };
         let stay = rng.from(40, 400);
         let mut rows = vec![Vec::new(); streams];
         for i in 0..total {
@@ -77,8 +77,8 @@ pub fn queue(b: &mut Bench) -> Held {
         }
         let mut bases: Vec<(usize, usize, usize)> = (0..rng.from(1, 12))
             .map(|_| {
-                let start = rng.below(150);
-                (rng.below(chroms), start, start + rng.below(60))
+                let start = if front { rng.from(8, 60) } else { rng.below(150) };
+                (rng.below(chroms), start, start + rng.below(if front { 5 } else { 60 }))
             })
             .collect();
         bases.sort();
