@@ -37,7 +37,7 @@ use Rattle.demands.proofs.RunAnswers.{right-given}
 use Rattle.demands.proofs.ComesBack.{Returns, returns}
 use Rattle.texts.specs.Texts.{room}
 use Rattle.texts.specs.Read.{baseIn}
-use Rattle.walk.specs.Run.{Own, Comes}
+use Rattle.walk.specs.Run.{Own, Comes, Bases}
 use Rattle.listing.specs.Listing.{recordLine, replyLines, runLines}
 use Rattle.listing.specs.Run.{linesFrom, stepOf}
 use Rattle.listing.specs.declared.Step.{Step}
@@ -78,6 +78,10 @@ comes-next s lengths r b l g l′ gives c =
       queue = subst (λ (f : List ℕ). All (Own s f) (runOf s (l′ .cells) (g .run) .queue)) (sym (back .sized .from))
           (subst (λ (x : rules.Run). All (Own s (r .from)) (x .queue)) (sym (gives .settles .run)) (held .1));
     }
+
+-- fewer bases stand in the columns, too
+pub bases-fewer : {list from to : List ℕ} {b : Cols} {n i : ℕ} → Bases list from to b n → i < n → Bases list from to b (i + 1)
+bases-fewer w h = record { inside = w .inside; chrom = omega (arith, w .chrom); start = omega (arith, w .start); stop = omega (arith, w .stop) }
 
 -- ---- the loop
 
@@ -196,3 +200,13 @@ module _ {ns : List (List ℕ)} {lengths : List ℕ} {b s : Cols} {n : ℕ} {who
         all-stand (answer.Refused y) (Whole q) k = cc
         all-stand (answer.Ended y) (Whole q) k = let z : _≡_ {A = ℕ} 0 1 = cc in absurd (omega arith)
         all-stand a (Part q) k = let z : _≡_ {A = ℕ} 0 1 = cc in absurd (omega arith)
+
+-- all that is lent keeps its length
+pub record Lengths (l : Lent) (out : List ℕ) (l′ : Lent) (out′ : List ℕ) : Type 0 where
+  pub stream : length (l′ .cells .stream) ≡ length (l .cells .stream)
+  pub row : length (l′ .cells .row) ≡ length (l .cells .row)
+  pub start : length (l′ .cells .start) ≡ length (l .cells .start)
+  pub stop : length (l′ .cells .stop) ≡ length (l .cells .stop)
+  pub streams : length (l′ .streams) ≡ length (l .streams)
+  pub rows : length (l′ .rows) ≡ length (l .rows)
+  pub buffer : length out′ ≡ length out

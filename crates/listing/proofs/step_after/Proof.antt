@@ -31,11 +31,11 @@ enum-known-answer-3 c = search needs
 
 -- src/lib.rt:36:1
 returns-2 : tie.Need-returns-2
-returns-2 c = ?
+returns-2 c = rw (c .before .before .before .before .lines .given .1, c .before .answer .given .1)
 
 -- src/lib.rt:36:1
 returns-3 : tie.Need-returns-3
-returns-3 c = ?
+returns-3 c = rw (c .before .before .before .before .lines .given .1, c .before .answer2 .given .1)
 
 -- src/lib.rt:36:1
 returns-4 : tie.Need-returns-4
