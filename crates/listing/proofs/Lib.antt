@@ -1,2 +1,3 @@
 -- Laws of the listing.
 pub mod Telling
+pub mod Listed

@@ -96,3 +96,56 @@ fn list_bases(
     }
     Laid::Whole(at)
 }
+
+// The listing of texts that were read, with nothing wrong.
+fn list_run(
+    read: Read,
+    bytes: &[u8],
+    ends: &[usize],
+    from: &[usize],
+    to: &[usize],
+    len: &[u64],
+    bchrom: &[u64],
+    bstart: &[u64],
+    bstop: &[u64],
+    chrom: &[u64],
+    start: &[u64],
+    stop: &[u64],
+    out: &mut [u8],
+) -> Laid
+    requires { ⌜ Fine (textsOf (now bytes) (now ends)) read (now from) (now to) (now len) (cols (now bchrom) (now bstart) (now bstop)) (cols (now chrom) (now start) (now stop)) ⌝ }
+    ensures { λ r. ⌜ Lays (now (out .entry)) 0 (listing (textsOf (now (bytes .entry)) (now (ends .entry)))) r (now (out .exit)) ⌝ }
+{
+    let a = ends[0];
+    let list = &bytes[..a];
+    let n = read.names;
+    let count = read.bases;
+    let run = walk::begin(read, list, from, to, chrom, start, stop);
+    let mut qstream = [0; 1024];
+    let mut qrow = [0; 1024];
+    let mut qstart = [0; 1024];
+    let mut qstop = [0; 1024];
+    let mut streams = [0; 1024];
+    let mut rows = [0; 1024];
+    list_bases(
+        run,
+        count,
+        list,
+        &from[..n],
+        &to[..n],
+        &len[..n],
+        bchrom,
+        bstart,
+        bstop,
+        chrom,
+        start,
+        stop,
+        &mut qstream,
+        &mut qrow,
+        &mut qstart,
+        &mut qstop,
+        &mut streams,
+        &mut rows,
+        out,
+    )
+}
