@@ -1,3 +1,4 @@
 -- Laws of the listing.
 pub mod Telling
 pub mod Listed
+pub mod Written

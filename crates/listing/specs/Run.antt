@@ -15,6 +15,7 @@ use Rattle.sweep.specs.View.{runOf}
 use Rattle.texts.specs.Texts.{room}
 use Rattle.texts.specs.Read.{baseIn}
 use Rattle.listing.specs.Listing.{runLines}
+use Rattle.listing.specs.declared.Listing.{Listing}
 use Rattle.listing.specs.declared.Step.{Step}
 use Rattle.listing.specs.declared.Step.the-variants.{On, Done}
 
@@ -29,3 +30,7 @@ stepOf (answer.Refused x) (Whole p) = On p
 stepOf (answer.Ended e) (Whole p) = Done
 stepOf a (Part p) = Done
 
+-- what became of the lines, in numbers
+abbrev pub toldOf : Laid → Listing
+toldOf (Whole p) = record { number = 0; length = p }
+toldOf (Part p) = record { number = 14; length = p }

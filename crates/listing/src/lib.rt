@@ -16,7 +16,7 @@ ghost use Rattle.texts.specs.Parted.{textsOf};
 ghost use Rattle.texts.specs.Read.{Rooms};
 ghost use Rattle.walk.specs.Run.{Comes, Bases, Fine};
 ghost use Rattle.listing.specs.Listing.{listing};
-ghost use Rattle.listing.specs.Run.{linesFrom, stepOf};
+ghost use Rattle.listing.specs.Run.{linesFrom, stepOf, toldOf};
 ghost use Rattle.listing.specs.Call.{Writes};
 
 // 0, or 14 where the listing is longer than its buffer; and how many bytes of it stand there.
@@ -148,4 +148,74 @@ fn list_run(
         &mut rows,
         out,
     )
+}
+
+// The listing of texts, by way of lent columns: a fault before the run gives one line, else the bases are listed.
+fn list_columns(
+    bytes: &[u8],
+    ends: &[usize],
+    from: &mut [usize],
+    to: &mut [usize],
+    len: &mut [u64],
+    bchrom: &mut [u64],
+    bstart: &mut [u64],
+    bstop: &mut [u64],
+    chrom: &mut [u64],
+    start: &mut [u64],
+    stop: &mut [u64],
+    out: &mut [u8],
+) -> Laid
+    requires { ⌜ Rooms (now from) (now to) (now len) (cols (now bchrom) (now bstart) (now bstop)) (cols (now chrom) (now start) (now stop)) ⌝ }
+    ensures { λ r. ⌜ Lays (now (out .entry)) 0 (listing (textsOf (now (bytes .entry)) (now (ends .entry)))) r (now (out .exit)) ⌝ }
+{
+    let read = texts::read_texts(
+        bytes, ends, from, to, len, bchrom, bstart, bstop, chrom, start, stop,
+    );
+    let verdict = read.verdict;
+    match verdict {
+        Verdict::Fine => list_run(
+            read, bytes, ends, from, to, len, bchrom, bstart, bstop, chrom, start, stop, out,
+        ),
+        Verdict::Fault(number, text, ahead) => {
+            let put = lines::put_fault(out, 0, number, text, ahead);
+            lines::only(put, 0)
+        }
+    }
+}
+
+// What became of the lines, in numbers.
+fn told(l: Laid) -> Listing
+    ensures { λ r. ⌜ r ≡ toldOf l ⌝ }
+{
+    match l {
+        Laid::Whole(p) => Listing {
+            number: 0,
+            length: p,
+        },
+        Laid::Part(p) => Listing {
+            number: 14,
+            length: p,
+        },
+    }
+}
+
+// Writes the whole listing of texts to a buffer. Given are the texts one behind the other, the chromosome list, the bases and
+// each stream, and where each of them ends.
+#[no_mangle]
+pub extern "C" fn cedarlash_list(bytes: &[u8], ends: &[usize], out: &mut [u8]) -> Listing
+    ensures { λ r. ⌜ Writes (textsOf (now (bytes .entry)) (now (ends .entry))) (now (out .entry)) r (now (out .exit)) ⌝ }
+{
+    let mut from = [0; 1024];
+    let mut to = [0; 1024];
+    let mut len = [0; 1024];
+    let mut bchrom = [0; 1024];
+    let mut bstart = [0; 1024];
+    let mut bstop = [0; 1024];
+    let mut chrom = [0; 8192];
+    let mut start = [0; 8192];
+    let mut stop = [0; 8192];
+    let l = list_columns(
+        bytes, ends, &mut from, &mut to, &mut len, &mut bchrom, &mut bstart, &mut bstop, &mut chrom, &mut start, &mut stop, out,
+    );
+    told(l)
 }

@@ -1,0 +1,25 @@
+-- `listing::told` meets its contract. Assumes nothing.
+use borrow.Author.Needs.{needs}
+use Rattle.listing.proofs.told.Statement.{statement}
+use Rattle.listing.proofs.told.Tie as tie
+use Rattle.listing.proofs.told.Reads as reads
+use Rattle.listing.proofs.told.Lts as lts
+
+-- src/lib.rt:191:21
+enum-known-l : tie.Need-enum-known-l
+enum-known-l c = search needs
+
+-- src/lib.rt:195:20
+enum-known-l-2 : tie.Need-enum-known-l-2
+enum-known-l-2 c = search needs
+
+-- src/lib.rt:187:1
+returns : tie.Need-returns
+returns c = rw (c .before .l .given .1)
+
+-- src/lib.rt:187:1
+returns-2 : tie.Need-returns-2
+returns-2 c = rw (c .before .l2 .given .1)
+
+pub told-spec : {M : Type 1} → statement M
+told-spec = tie.close (tie.spec enum-known-l enum-known-l-2 returns returns-2)
