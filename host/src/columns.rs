@@ -38,6 +38,18 @@ impl Rows {
         Some(Base { chrom: *self.chrom.get(k)?, start: self.start[k], stop: self.stop[k] })
     }
 
+    /// All rows in their order.
+    pub fn iter(&self) -> impl Iterator<Item = Base> + '_ {
+        let row = |((&chrom, &start), &stop)| Base { chrom, start, stop };
+        self.chrom.iter().zip(&self.start).zip(&self.stop).map(row)
+    }
+
+    /// The rows of a whole text.
+    pub fn from_text(genome: &Genome, text: &[u8]) -> Result<Rows, BadText> {
+        let mut rows = Rows::default();
+        rows.read(genome, Block::whole(text)).map(|()| rows)
+    }
+
     /// Forgets the rows from `k` on.
     pub fn truncate(&mut self, k: usize) {
         self.columns().into_iter().for_each(|c| c.truncate(k));

@@ -123,9 +123,7 @@ impl<'a> Sweep<'a> {
                 records: Records { streams: &self.streams[..told.count], rows: &self.rows[..told.count] },
                 offer: (told.offered != 0).then_some(Place { chrom: told.chrom, stop: told.stop }),
             },
-            number @ (7 | 8) => {
-                Answer::Ended(End { number, record: Some((told.stream as usize, told.row as usize)) })
-            }
+            number @ (7 | 8) => Answer::Ended(End { number, record: Some((told.stream as usize, told.row as usize)) }),
             number @ (9 | 10) => Answer::Ended(End { number, record: None }),
             number => Answer::Refused(number),
         }

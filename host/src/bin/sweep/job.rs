@@ -158,8 +158,7 @@ impl Walk<'_> {
 
     /// Gives the bases of a block; the end, with the line of its base, if the run has ended.
     fn block(&mut self, rows: &Rows, block: Block) -> Result<Option<(u64, End)>, Trouble> {
-        for k in 0..rows.len() {
-            let Some(base) = rows.get(k) else { break };
+        for (k, base) in rows.iter().enumerate() {
             match self.base(base) {
                 Answer::Found { .. } => {}
                 Answer::Refused(number) => {
@@ -216,7 +215,9 @@ impl Walk<'_> {
         let base = format!("{}: line {line}", called(&self.job.bases));
         let why = format!("refusal {}: {}", end.number, words(end.number));
         match end.record.and_then(|(stream, row)| Some((self.job.streams.get(stream)?, row))) {
-            Some((file, row)) => eprintln!("cedarlash sweep: {}: row {row} (from 0): {why}; the run ended at {base}", called(file)),
+            Some((file, row)) => {
+                eprintln!("cedarlash sweep: {}: row {row} (from 0): {why}; the run ended at {base}", called(file))
+            }
             None => eprintln!("cedarlash sweep: {base}: {why} (-q {}); the run ended", self.job.room),
         }
         Ok(false)
