@@ -136,6 +136,26 @@ impl Bases for &mut Moody<'_> {
     }
 }
 
+/// Three bases, of which the second has length zero and is offered nothing. The places are kept.
+struct Noting(Vec<Option<Place>>);
+
+impl Bases for &mut Noting {
+    fn next_base(&mut self, place: Option<Place>) -> Option<Base> {
+        self.0.push(place);
+        on(0, &[(0, 10), (20, 20), (30, 40)]).get(self.0.len() - 1).copied()
+    }
+}
+
+/// "it holds until the next offer"
+#[test]
+fn a_place_holds_until_the_next_offer() {
+    let (genome, columns) = (genome(), columns(&[on(1, &[(5, 9)])]));
+    let mut noting = Noting(Vec::new());
+    assert_eq!(Sweep::begin(&genome, &columns, 4).unwrap().answers(&mut noting).count(), 3);
+    let place = Some(Place { chrom: 1, stop: 5 });
+    assert_eq!(noting.0, [None, place, place, place]);
+}
+
 /// Rows in order, far apart now and then.
 fn far_rows(rng: &mut Rng, most: usize, chroms: usize) -> Vec<Base> {
     let mut rows: Vec<Base> = (0..rng.below(most + 1))

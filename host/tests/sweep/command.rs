@@ -4,6 +4,8 @@ use crate::files::{said, tabs, Folder};
 use std::fs::File;
 use std::io::{BufRead, BufReader, Read, Write};
 use std::process::{Command, Stdio};
+use std::sync::mpsc;
+use std::time::Duration;
 
 /// A folder with 01's example: g, a, b.
 fn sample() -> Folder {
@@ -140,19 +142,20 @@ fn standard_input() {
 fn output_begins_before_the_last_base() {
     let folder = sample();
     let mut child = folder.sweep(&["-g", "g", "-a", "-", "-b", "b"]).stdin(Stdio::piped()).spawn().unwrap();
-    let (mut bases, mut listing) = (child.stdin.take().unwrap(), BufReader::new(child.stdout.take().unwrap()));
-    let mut lines = |count: usize| {
-        let mut lines = String::new();
-        (0..count).for_each(|_| assert!(listing.read_line(&mut lines).is_ok()));
-        lines
+    let (mut bases, listing) = (child.stdin.take().unwrap(), BufReader::new(child.stdout.take().unwrap()));
+    let (send, listed) = mpsc::channel();
+    std::thread::spawn(move || listing.lines().for_each(|line| drop(send.send(line.unwrap()))));
+    let lines = |count: usize| -> Vec<String> {
+        let next = || listed.recv_timeout(Duration::from_secs(10)).expect("a line before the next base is there");
+        (0..count).map(|_| next()).collect()
     };
     bases.write_all(b"one\t0\t5\none\t7").unwrap();
-    assert_eq!(lines(2), "B\tone\t0\t5\t1\nR\t0\t0\t0\t100\n");
+    assert_eq!(lines(2), ["B\tone\t0\t5\t1", "R\t0\t0\t0\t100"]);
     bases.write_all(b"0\t80\nthree\t1\t2\n").unwrap();
-    assert_eq!(lines(3), "B\tone\t70\t80\t1\nR\t0\t0\t0\t100\nX\t4\t2\n");
+    assert_eq!(lines(3), ["B\tone\t70\t80\t1", "R\t0\t0\t0\t100", "X\t4\t2"]);
     bases.write_all(b"two\t0\t5").unwrap();
     drop(bases);
-    assert_eq!(lines(2), "B\ttwo\t0\t5\t0\n");
+    assert_eq!(lines(1), ["B\ttwo\t0\t5\t0"]);
     assert_eq!(child.wait().unwrap().code(), Some(1));
 }
 
