@@ -47,7 +47,7 @@ fn read_named(word: usize, bytes: &mut [u8], from: usize) -> Got
     let mut path = io::buffer();
     let n = os::arg(word, &mut path);
     if os::errno() != 0 {
-        os::fail(&path[..n]);
+        os::fail(b"an argument");
         return Got {
             end: from,
             good: false,

@@ -1,18 +1,24 @@
 // Writes the listing of files to standard output: `list_files LIST BASES STREAM...`.
-// What can't be done is said on standard error, where else nothing is written.
+// What can't be read or written is said on standard error, and nothing else is; a program has no exit status of its own to say it with.
 mod files;
 mod listing;
 
 use libc::STDERR_FILENO;
 ghost use Prim.Native.Nat.{_≤_};
 
+fn say(line: &[u8]) {
+    io::write_all(STDERR_FILENO, line);
+}
+
 // How the program is called, on standard error.
 fn usage() {
-    io::write_all(STDERR_FILENO, b"usage: list_files LIST BASES STREAM...\n");
-    io::write_all(STDERR_FILENO, b"lists, for each base, the records that overlap it; fields are parted by tabs\n");
-    io::write_all(STDERR_FILENO, b"  LIST    chromosomes in their order: name, length where known\n");
-    io::write_all(STDERR_FILENO, b"  BASES   sorted target regions: chromosome, start, stop\n");
-    io::write_all(STDERR_FILENO, b"  STREAM  sorted records, the same; 1 to 8 files\n");
+    say(b"usage: list_files LIST BASES STREAM...\n");
+    say(b"lists, for each base, the records that overlap it; fields are parted by tabs\n");
+    say(b"  LIST    chromosomes in their order: name, length where known\n");
+    say(b"  BASES   sorted target regions: chromosome, start, stop\n");
+    say(b"  STREAM  sorted records, the same; 1 to 8 files\n");
+    say(b"what is refused stands in the listing, as an X line (status 0); what can't be read or\n");
+    say(b"written is said on standard error (status 2, given by ./cedarlash list)\n");
 }
 
 fn least(a: usize, b: usize) -> usize
