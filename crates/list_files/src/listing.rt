@@ -42,6 +42,7 @@ fn list_fault(number: u64, text: u64, ahead: u64) {
     write_lines(&out, laid);
 }
 
+// Whether the run has ended.
 fn has_ended(answer: Answer) -> bool {
     match answer {
         Answer::Found(n, o) => false,

@@ -6,6 +6,7 @@ mod listing;
 use libc::STDERR_FILENO;
 ghost use Prim.Native.Nat.{_≤_};
 
+// Writes to standard error.
 fn say(line: &[u8]) {
     io::write_all(STDERR_FILENO, line);
 }
@@ -21,6 +22,7 @@ fn usage() {
     say(b"written is said on standard error (status 2, given by ./cedarlash list)\n");
 }
 
+// The smaller of two numbers.
 fn least(a: usize, b: usize) -> usize
     ensures { λ r. ⌜ (r ≤ a) × (r ≤ b) ⌝ }
 {
