@@ -1,0 +1,2 @@
+-- Laws of the program that lists files.
+pub mod FineLaws
