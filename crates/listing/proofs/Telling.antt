@@ -141,7 +141,7 @@ module _ {ns : List (List ℕ)} {lengths : List ℕ} {b s : Cols} {n : ℕ} {who
     lines-next =
         let next : rules.Run = runOf s (l′ .cells) (x .run) in
         let run-is : give (lengthsOf lengths) room (lending room) (runOf s (l .cells) r) (baseIn b i) .run ≡ runOf s (l′ .cells) (x .run) =
-            ap (λ (g : rules.Given). g .run) (sym given-is) ∙ sym (h .gives .settles .run) in
+        ap (λ (g : rules.Given). g .run) (sym given-is) ∙ sym (h .gives .settles .run) in
         let reply-is : give (lengthsOf lengths) room (lending room) (runOf s (l .cells) r) (baseIn b i) .reply ≡ reply = ap (λ (g : rules.Given). g .reply) (sym given-is) in
         ap (λ (bs : List Base). runLines ns i bs (replies (lengthsOf lengths) room (runOf s (l .cells) r) bs)) (build-front (baseIn b) n i below)
         ∙ ap (λ (t : Reply). replyLines ns i (baseIn b i) t (runLines ns (suc i) (build (baseIn b) (n - (i + 1)) (i + 1)) (replies (lengthsOf lengths) room (give (lengthsOf lengths) room (lending room) (runOf s (l .cells) r) (baseIn b i) .run) (build (baseIn b) (n - (i + 1)) (i + 1))))) reply-is

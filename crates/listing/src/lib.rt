@@ -46,7 +46,6 @@ fn step_after(answer: Answer, lines: Laid) -> Step
     }
 }
 
-
 // The lines of n bases, one behind the other, until the run ends or a line doesn't fit.
 fn list_bases(
     run: Run,
@@ -74,7 +73,7 @@ fn list_bases(
         × (length (now streams) ≡ room) × (length (now rows) ≡ room) ⌝ }
     ensures { λ r. ⌜ Lays (now (out .entry)) 0
         (linesFrom (names (now (list .entry)) (now (from .entry)) (now (to .entry))) (now (lengths .entry)) (cols (now (bchrom .entry)) (now (bstart .entry)) (now (bstop .entry)))
-            (cols (now (chrom .entry)) (now (start .entry)) (now (stop .entry))) n 0 run (cells (now (qstream .entry)) (now (qrow .entry)) (now (qstart .entry)) (now (qstop .entry))))
+        (cols (now (chrom .entry)) (now (start .entry)) (now (stop .entry))) n 0 run (cells (now (qstream .entry)) (now (qrow .entry)) (now (qstart .entry)) (now (qstop .entry))))
         r (now (out .exit)) ⌝ }
 {
     let mut u = run;
@@ -82,7 +81,26 @@ fn list_bases(
     let mut i: usize = 0;
     while i < n {
         let x = walk::list_row(
-            u, i, list, from, to, lengths, bchrom, bstart, bstop, chrom, start, stop, qstream, qrow, qstart, qstop, streams, rows, out, at,
+            u,
+            i,
+            list,
+            from,
+            to,
+            lengths,
+            bchrom,
+            bstart,
+            bstop,
+            chrom,
+            start,
+            stop,
+            qstream,
+            qrow,
+            qstart,
+            qstop,
+            streams,
+            rows,
+            out,
+            at,
         );
         u = x.run;
         i += 1;
@@ -169,12 +187,34 @@ fn list_columns(
     ensures { λ r. ⌜ Lays (now (out .entry)) 0 (listing (textsOf (now (bytes .entry)) (now (ends .entry)))) r (now (out .exit)) ⌝ }
 {
     let read = texts::read_texts(
-        bytes, ends, from, to, len, bchrom, bstart, bstop, chrom, start, stop,
+        bytes,
+        ends,
+        from,
+        to,
+        len,
+        bchrom,
+        bstart,
+        bstop,
+        chrom,
+        start,
+        stop,
     );
     let verdict = read.verdict;
     match verdict {
         Verdict::Fine => list_run(
-            read, bytes, ends, from, to, len, bchrom, bstart, bstop, chrom, start, stop, out,
+            read,
+            bytes,
+            ends,
+            from,
+            to,
+            len,
+            bchrom,
+            bstart,
+            bstop,
+            chrom,
+            start,
+            stop,
+            out,
         ),
         Verdict::Fault(number, text, ahead) => {
             let put = lines::put_fault(out, 0, number, text, ahead);
@@ -215,7 +255,18 @@ pub extern "C" fn cedarlash_list(bytes: &[u8], ends: &[usize], out: &mut [u8]) -
     let mut start = [0; 8192];
     let mut stop = [0; 8192];
     let l = list_columns(
-        bytes, ends, &mut from, &mut to, &mut len, &mut bchrom, &mut bstart, &mut bstop, &mut chrom, &mut start, &mut stop, out,
+        bytes,
+        ends,
+        &mut from,
+        &mut to,
+        &mut len,
+        &mut bchrom,
+        &mut bstart,
+        &mut bstop,
+        &mut chrom,
+        &mut start,
+        &mut stop,
+        out,
     );
     told(l)
 }

@@ -54,7 +54,7 @@ module _ (text list from to : List ℕ) (p e : ℕ) (s : Cols) (r : Reading) (cs
   -- a column is the filled one
   joined-filled : (f : Row → ℕ) (old back : List ℕ) →
       back ≡ map f (rowsFound text list from to (length (lentOf p e (s .chrom))) (length (lentOf p e (s .start))) (length (lentOf p e (s .stop))) .rows)
-        ++ drop (length (rowsFound text list from to (length (lentOf p e (s .chrom))) (length (lentOf p e (s .start))) (length (lentOf p e (s .stop))) .rows)) (lentOf p e old) →
+      ++ drop (length (rowsFound text list from to (length (lentOf p e (s .chrom))) (length (lentOf p e (s .start))) (length (lentOf p e (s .stop))) .rows)) (lentOf p e old) →
       (fits : p + rowsMost ≤ length old) → joinedTo p e old back ≡ filled f rows p rowsMost old fits few
   joined-filled f old back is fits =
       ap (λ (b : List ℕ). joinedTo p e old b) (is ∙ ap (λ (g : Found Row). map f (g .rows) ++ drop (length (g .rows)) (lentOf p e old)) found-is)

@@ -188,7 +188,7 @@ sizes-test bytes ends = go (partsAll (length bytes) 0 ends) refl
     by-texts (a ∷ []) h = and-no (leb (bytesOf (textsFrom (partedAt bytes 0 (a ∷ [])))) bytesMost) false refl ∙ sym (and-no (leb (length bytes) bytesMost) false refl)
     by-texts (a ∷ b ∷ more) h =
         let w : within 1 8 (length (partedAt bytes b more)) ≡ within 3 10 (suc (suc (length more))) && true =
-            ap (within 1 8) (parted-length bytes b more) ∙ streams-within (length more) ∙ sym (and-one (within 3 10 (suc (suc (length more))))) in
+        ap (within 1 8) (parted-length bytes b more) ∙ streams-within (length more) ∙ sym (and-one (within 3 10 (suc (suc (length more))))) in
         ap (λ (n : ℕ). leb n bytesMost && within 1 8 (length (partedAt bytes b more))) h ∙ ap (λ (u : Bool). leb (length bytes) bytesMost && u) w
 
     go : (t : Bool) → partsAll (length bytes) 0 ends ≡ t →

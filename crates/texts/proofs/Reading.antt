@@ -125,9 +125,9 @@ module _ (bytes ends from to len : List ℕ) (b₀ b s : Cols) (named : Names) (
         ap faultBy hv ∙ first-else (named .verdict) y
         ∙ ap (λ (o : Option Fault). else o (faultBy y)) (hn .verdict (length streams) (omega (arith, count, size .some)) (omega (arith, count, size .few)))
         ∙ ap (λ (o : Option Fault). else (listFault (length streams) list) o)
-            (ap faultBy hy ∙ first-else x (st .verdict)
-            ∙ ap (λ (o : Option Fault). else o (faultBy (st .verdict))) (ap faultBy hx ∙ base-wrong)
-            ∙ ap (λ (o : Option Fault). else (foundFault 1 (rowsIn (namesIn list) bases)) o) (hs .verdict ∙ ap (λ (k : List (List ℕ)). streamsFault k 2 streams) same))
+        (ap faultBy hy ∙ first-else x (st .verdict)
+        ∙ ap (λ (o : Option Fault). else o (faultBy (st .verdict))) (ap faultBy hx ∙ base-wrong)
+        ∙ ap (λ (o : Option Fault). else (foundFault 1 (rowsIn (namesIn list) bases)) o) (hs .verdict ∙ ap (λ (k : List (List ℕ)). streamsFault k 2 streams) same))
         ∙ ap (λ (o : Option Fault). else o (else (listFault (length streams) list) (else (foundFault 1 (rowsIn (namesIn list) bases)) (streamsFault (namesIn list) 2 streams)))) (sym sizes)
 
     rows-count : n ≡ length (rowsIn ns bases .rows)

@@ -102,10 +102,10 @@ module _ {ns ss : List (List ℕ)} {s s′ : Cols} {v : Verdict} {tops : List �
       let one : suc k ≡ k + 1 = omega arith in
       let next : suc (k + 2) ≡ k + 1 + 2 = omega arith in
       let cut : streamsFault ns (k + 2) (drop k ss) ≡ else (foundFault (k + 2) (rowsIn ns text)) (streamsFault ns (k + 1 + 2) (drop (k + 1) ss)) =
-          ap (streamsFault ns (k + 2)) (drop-cons ss k [] below)
-          ∙ ap (λ (t : List ℕ). else (foundFault (k + 2) (rowsIn ns t)) (streamsFault ns (suc (k + 2)) (drop (suc k) ss))) (sym is)
-          ∙ ap (λ (m : ℕ). else (foundFault (k + 2) (rowsIn ns text)) (streamsFault ns m (drop (suc k) ss))) next
-          ∙ ap (λ (m : ℕ). else (foundFault (k + 2) (rowsIn ns text)) (streamsFault ns (k + 1 + 2) (drop m ss))) one in
+      ap (streamsFault ns (k + 2)) (drop-cons ss k [] below)
+      ∙ ap (λ (t : List ℕ). else (foundFault (k + 2) (rowsIn ns t)) (streamsFault ns (suc (k + 2)) (drop (suc k) ss))) (sym is)
+      ∙ ap (λ (m : ℕ). else (foundFault (k + 2) (rowsIn ns text)) (streamsFault ns m (drop (suc k) ss))) next
+      ∙ ap (λ (m : ℕ). else (foundFault (k + 2) (rowsIn ns text)) (streamsFault ns (k + 1 + 2) (drop m ss))) one in
       ap (λ (o : Option Fault). else o (streamsFault ns (k + 1 + 2) (drop (k + 1) ss))) (first-else v (verdictAt (k + 2) r) ∙ ap (λ (o : Option Fault). else (faultBy v) o) wrong)
       ∙ else-assoc (faultBy v) (foundFault (k + 2) (rowsIn ns text)) (streamsFault ns (k + 1 + 2) (drop (k + 1) ss))
       ∙ ap (λ (o : Option Fault). else (faultBy v) o) (sym cut)
@@ -197,4 +197,4 @@ streaming-end {ns} {ss} {s} {v} {tops} {k} w over few =
         let n : length (map (given ns) ss) ≡ length ss = length-map ss (given ns) in
         ap (λ (m : ℕ). streamsOf s m places tops) (sym n)
         ∙ read-back (λ j. build (rowIn s) (getD tops j 0 - getD places j 0) (getD places j 0)) (map (given ns) ss) 0
-            (λ i h. let z : 0 + i ≡ i = omega arith in rw z (at-one i (omega (arith, n)) ∙ sym (get-map (given ns) ss i [] _ (omega (arith, n)))))
+        (λ i h. let z : 0 + i ≡ i = omega arith in rw z (at-one i (omega (arith, n)) ∙ sym (get-map (given ns) ss i [] _ (omega (arith, n)))))

@@ -220,7 +220,16 @@ pub fn read_texts(
     let list = &bytes[..a];
     let named = read_names(list, from, to, len);
     let n = named.count;
-    let r = read_part(&bytes[a..b], list, &from[..n], &to[..n], bchrom, bstart, bstop, 0);
+    let r = read_part(
+        &bytes[a..b],
+        list,
+        &from[..n],
+        &to[..n],
+        bchrom,
+        bstart,
+        bstop,
+        0,
+    );
     let s = read_streams(bytes, ends, list, &from[..n], &to[..n], chrom, start, stop);
     let of_list = named.verdict;
     let of_streams = s.verdict;

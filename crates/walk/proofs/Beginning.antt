@@ -102,9 +102,13 @@ module _ {t : Texts} {r : Read} {list from to len : List ℕ} {b s : Cols} (is-l
   unfolding lendable
   lends =
       let even : evened s ≡ true = rw (f .rooms .chrom, f .rooms .start, f .rooms .stop) in
-      let rows : inRows p ≡ true = says-true (ranged-says (length (s .chrom)) (r .streams) places (r .to))
-          (omega (arith, f .columns .streams, some-streams .1), λ k h. (omega (arith, place-at k (omega (arith, f .columns .streams, some-streams .1)), f .columns .low k (omega (arith, f .columns .streams))),
-            omega (arith, f .columns .high k (omega (arith, f .columns .streams)), f .rooms .chrom, f .columns .streams, some-streams .1))) in
+      let rows : inRows p ≡ true = says-true (ranged-says (length (s .chrom)) (r .streams) places (r .to)) (
+        omega (arith, f .columns .streams, some-streams .1),
+        λ k h. (
+          omega (arith, place-at k (omega (arith, f .columns .streams, some-streams .1)), f .columns .low k (omega (arith, f .columns .streams))),
+          omega (arith, f .columns .high k (omega (arith, f .columns .streams)), f .rooms .chrom, f .columns .streams, some-streams .1),
+        ),
+      ) in
       rw (even, rows) (names-is .inside)
 
   begun : startOf p .begins ≡ Begun
