@@ -1,11 +1,14 @@
-//! Finds the proved archive, and makes the wrong witnesses of `differential selfcheck`.
+//! Finds the proved archives that the features ask for, and makes the wrong witnesses of `differential selfcheck`.
 
 use std::path::{Path, PathBuf};
 use std::{env, fs};
 
 fn main() {
     if env::var_os("CARGO_FEATURE_LIBRARY").is_some() {
-        link();
+        link("listing");
+    }
+    if env::var_os("CARGO_FEATURE_INPLACE").is_some() {
+        link("inplace");
     }
     if env::var_os("CARGO_FEATURE_SLIPS").is_some() {
         let out = PathBuf::from(env::var_os("OUT_DIR").expect("cargo names OUT_DIR"));
@@ -13,25 +16,25 @@ fn main() {
     }
 }
 
-/// Tells the linker where liblisting.a is, or says what to run.
-fn link() {
+/// Tells the linker where the archive of this crate is, or says what to run.
+fn link(name: &str) {
     println!("cargo:rerun-if-env-changed=CEDARLASH_LIB");
     let here = PathBuf::from(env::var_os("CARGO_MANIFEST_DIR").expect("cargo names the folder"));
     let folder = match env::var_os("CEDARLASH_LIB") {
         Some(folder) => here.join(folder),
         None => here.join("../target/staticlib"),
     };
-    let archive = folder.join("liblisting.a");
+    let archive = folder.join(format!("lib{name}.a"));
     println!("cargo:rerun-if-changed={}", archive.display());
     if !archive.is_file() {
         stop(&format!(
-            "{} is not there. Run 'rt staticlib listing' in the repository's root folder, which proves the library and \
+            "{} is not there. Run 'rt staticlib {name}' in the repository's root folder, which proves the library and \
              writes it, or let CEDARLASH_LIB name the folder that has it. ('--no-default-features' builds without it.)",
             archive.display()
         ));
     }
     println!("cargo:rustc-link-search=native={}", folder.display());
-    println!("cargo:rustc-link-lib=static=listing");
+    println!("cargo:rustc-link-lib=static={name}");
 }
 
 /// Ends the build with a plain line.

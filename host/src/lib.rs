@@ -1,12 +1,32 @@
-//! Cedarlash for Rust programs: all texts in, one listing out.
+//! Cedarlash for Rust programs: at scale, a run over columns; within the program's limits, all texts in, one listing out.
 //!
-//! [`list`] and [`list_ends`] call the proved library; [`paper`] is a second implementation, written from the scope
-//! document (01) alone, against which the program `differential` holds the first.
+//! At scale (feature `inplace`): a [`Genome`] is read, then the streams into [`Columns`]; [`Sweep::begin`] begins a run and
+//! [`Sweep::give`] gives it a base; [`Sweep::answers`] gives all bases of a source. [`lines`] writes the listing's lines.
+//!
+//! Within the limits (feature `library`): `list` and `list_ends` call the proved listing; [`paper`] is a second
+//! implementation, written from the scope document (01) alone, against which the program `differential` holds the first.
 #![deny(unsafe_op_in_unsafe_fn)]
 
+pub mod blocks;
+#[cfg(feature = "inplace")]
+mod columns;
+#[cfg(feature = "inplace")]
+mod genome;
+pub mod lines;
 pub mod paper;
-#[cfg(feature = "library")]
+#[cfg(any(feature = "library", feature = "inplace"))]
 mod raw;
+mod refusal;
+#[cfg(feature = "inplace")]
+mod sweep;
+
+#[cfg(feature = "inplace")]
+pub use columns::{Base, Columns, Rows};
+#[cfg(feature = "inplace")]
+pub use genome::Genome;
+pub use refusal::{words, BadText, ReadError, Refusal};
+#[cfg(feature = "inplace")]
+pub use sweep::{Answer, Answers, Bases, End, LeavingOut, Place, Records, Sweep, MOST_ROOM};
 
 /// What a call gives besides the bytes it wrote.
 #[repr(C)]

@@ -1,0 +1,89 @@
+//! The lines of the listing, added to a buffer of bytes.
+
+/// The longest line but for a name: a mark, four numbers, tabs and the LF.
+const MOST: usize = 96;
+
+/// Two digits each of 00 to 99.
+const PAIRS: [u8; 200] = {
+    let mut pairs = [0; 200];
+    let mut n = 0;
+    while n < 100 {
+        pairs[2 * n] = b'0' + (n / 10) as u8;
+        pairs[2 * n + 1] = b'0' + (n % 10) as u8;
+        n += 1;
+    }
+    pairs
+};
+
+/// A line, written from its end to its front.
+struct Line {
+    bytes: [u8; MOST],
+    at: usize,
+}
+
+impl Line {
+    /// A line with nothing but its LF.
+    fn new() -> Self {
+        Line { bytes: [b'\n'; MOST], at: MOST - 1 }
+    }
+
+    fn byte(&mut self, byte: u8) {
+        self.at -= 1;
+        self.bytes[self.at] = byte;
+    }
+
+    /// A tab and a number, ahead of what is there.
+    fn number(&mut self, mut n: u64) {
+        while n >= 100 {
+            let pair = (n % 100) as usize * 2;
+            n /= 100;
+            self.at -= 2;
+            self.bytes[self.at] = PAIRS[pair];
+            self.bytes[self.at + 1] = PAIRS[pair + 1];
+        }
+        if n >= 10 {
+            self.byte(PAIRS[n as usize * 2 + 1]);
+            self.byte(PAIRS[n as usize * 2]);
+        } else {
+            self.byte(b'0' + n as u8);
+        }
+        self.byte(b'\t');
+    }
+
+    /// A mark and its numbers.
+    fn put(out: &mut Vec<u8>, mark: u8, numbers: &[u64]) {
+        let mut line = Line::new();
+        numbers.iter().rev().for_each(|&n| line.number(n));
+        line.byte(mark);
+        out.extend_from_slice(&line.bytes[line.at..]);
+    }
+}
+
+/// `B`, the chromosome's name, start, stop and the count of records.
+pub fn base(out: &mut Vec<u8>, name: &[u8], start: u64, stop: u64, count: usize) {
+    let mut line = Line::new();
+    line.number(count as u64);
+    line.number(stop);
+    line.number(start);
+    out.extend_from_slice(b"B\t");
+    out.extend_from_slice(name);
+    out.extend_from_slice(&line.bytes[line.at..]);
+}
+
+/// `R`, stream, row, start and stop.
+pub fn record(out: &mut Vec<u8>, stream: usize, row: usize, start: u64, stop: u64) {
+    Line::put(out, b'R', &[stream as u64, row as u64, start, stop]);
+}
+
+/// `X`, the refusal and the base's row; for 7 and 8 the stream and row of the record.
+pub fn refused(out: &mut Vec<u8>, number: u64, row: u64, record: Option<(usize, usize)>) {
+    match record {
+        None => Line::put(out, b'X', &[number, row]),
+        Some((stream, at)) => Line::put(out, b'X', &[number, row, stream as u64, at as u64]),
+    }
+}
+
+/// `X`, the refusal, the text (0 the list, 1 the bases, 2 and up the streams) and the rows ahead.
+pub fn fault(out: &mut Vec<u8>, number: u64, text: usize, rows: u64) {
+    Line::put(out, b'X', &[number, text as u64, rows]);
+}
