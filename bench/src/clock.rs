@@ -16,8 +16,7 @@ struct Span {
 struct Usage {
     user: Span,
     system: Span,
-    peak_kib: i64,
-    others: [i64; 13],
+    others: [i64; 14],
 }
 
 const THREAD_CPUTIME: i32 = 3;
@@ -35,12 +34,11 @@ pub fn thread_ns() -> f64 {
     t.seconds as f64 * 1e9 + t.parts as f64
 }
 
-/// What a command took: seconds by the clock on the wall, seconds of processor time, and its most memory in MiB.
+/// What a command took, in seconds: by the clock on the wall, and of processor time.
 #[derive(Clone, Copy)]
 pub struct Cost {
     pub wall: f64,
     pub processor: f64,
-    pub peak: f64,
 }
 
 /// Runs a command line by `sh` with its output thrown away.
@@ -57,5 +55,5 @@ pub fn run(line: &str) -> Result<Cost, String> {
         return Err(format!("'{line}' ended with the status {}", status >> 8));
     }
     let seconds = |s: &Span| s.seconds as f64 + s.parts as f64 / 1e6;
-    Ok(Cost { wall, processor: seconds(&usage.user) + seconds(&usage.system), peak: usage.peak_kib as f64 / 1024.0 })
+    Ok(Cost { wall, processor: seconds(&usage.user) + seconds(&usage.system) })
 }

@@ -10,16 +10,20 @@ pub struct Tool {
     count: String,
 }
 
-/// The commands over the files of a folder. `ours` is the product's own command, where it is there.
-pub fn tools(folder: &str, streams: usize, ours: Option<&str>) -> Vec<Tool> {
+/// The product's command, and the program that it starts once it has seen that this is built.
+pub const OURS: [(&str, &str); 2] =
+    [("cedarlash sweep", "./cedarlash sweep"), ("its program alone", "target/host/release/sweep")];
+
+/// The commands over the files of a folder, ours first.
+pub fn tools(folder: &str, streams: usize) -> Vec<Tool> {
     let files: Vec<String> = (0..streams).map(|k| format!("{folder}/stream{k}.bed")).collect();
     let files = files.join(" ");
     let (list, bases) = (format!("{folder}/genome.txt"), format!("{folder}/bases.bed"));
     let mut tools = Vec::new();
-    if let Some(ours) = ours {
-        let line = format!("{ours} sweep -g {list} -a {bases} -b {files}");
+    for (name, command) in OURS {
+        let line = format!("{command} -g {list} -a {bases} -b {files}");
         let count = format!("{line} | grep -c ^R");
-        tools.push(Tool { name: "cedarlash sweep", line, count });
+        tools.push(Tool { name, line, count });
     }
     let line = format!("bedtools intersect -sorted -g {list} -wa -wb -a {bases} -b {files}");
     let count = format!("{line} | wc -l");

@@ -1,5 +1,7 @@
 //! Seeded inputs over the human chromosomes, and their BED files.
 
+/// A record or a base; its order is the merged one: chromosome, start, stop.
+pub use cedarlash::Base as Row;
 use std::io::{BufWriter, Write};
 use std::path::Path;
 
@@ -30,14 +32,6 @@ pub const GENOME: [(&str, u64); 24] = [
     ("chrX", 156_040_895),
     ("chrY", 57_227_415),
 ];
-
-/// A record or a base. The derived order is the merged one: chromosome, start, stop.
-#[derive(Clone, Copy, PartialEq, Eq, PartialOrd, Ord, Debug)]
-pub struct Row {
-    pub chrom: u64,
-    pub start: u64,
-    pub stop: u64,
-}
 
 /// What an input is made from.
 #[derive(Clone, Copy)]
@@ -79,6 +73,11 @@ impl Size {
         let [records, bases, shrink] = numbers[..] else { return None };
         Some(Size { records: records as usize, bases: bases as usize, shrink })
     }
+}
+
+/// The chromosome list as a text.
+pub fn list() -> String {
+    GENOME.iter().map(|(name, length)| format!("{name}\t{length}\n")).collect()
 }
 
 pub struct Input {
@@ -162,8 +161,7 @@ impl Input {
     /// Writes `genome.txt`, `bases.bed` and `stream0.bed` onwards to a folder.
     pub fn write(&self, folder: &Path) -> std::io::Result<()> {
         std::fs::create_dir_all(folder)?;
-        let list: String = GENOME.iter().map(|(name, length)| format!("{name}\t{length}\n")).collect();
-        std::fs::write(folder.join("genome.txt"), list)?;
+        std::fs::write(folder.join("genome.txt"), list())?;
         write_rows(&folder.join("bases.bed"), &self.bases)?;
         for (k, rows) in self.streams.iter().enumerate() {
             write_rows(&folder.join(format!("stream{k}.bed")), rows)?;

@@ -46,7 +46,6 @@ mod count;
 mod files;
 mod input;
 mod measure;
-mod ours;
 mod plain;
 mod rust;
 mod sweeps;
@@ -56,10 +55,9 @@ use input::{Recipe, Size};
 use measure::Plan;
 use sweeps::{Bench, Who};
 
-const USAGE: &str = "usage:
-  all FOLDER [OURS]     measures everything and writes the document to standard output; files go to FOLDER,
-                        OURS is the product's command (without it part (b) has the other tools alone)
-  quick FOLDER [OURS]   the same with a twentieth of the rows and few rounds: a trial, no measurement
+const USAGE: &str = "usage, in the repository's root:
+  all FOLDER            measures everything and writes the document to standard output; files go to FOLDER
+  quick FOLDER          the same with a twentieth of the rows and few rounds: a trial, no measurement
   count WHO INPUT SIZE  one run, for callgrind";
 
 /// The document, with places in braces for what is measured.
@@ -69,12 +67,10 @@ fn main() {
     let words: Vec<String> = std::env::args().skip(1).collect();
     let words: Vec<&str> = words.iter().map(|w| w.as_str()).collect();
     let full = Size { records: 1_000_000, bases: 200_000, shrink: 1 };
-    let small = Size { records: 50_000 - 50_000 % 8, bases: 10_000, shrink: 1 };
+    let small = Size { records: 48_000, bases: 10_000, shrink: 1 };
     match words[..] {
-        ["all", folder] => document(Plan { size: full, rounds: 15, folder, ours: None }),
-        ["all", folder, ours] => document(Plan { size: full, rounds: 15, folder, ours: Some(ours) }),
-        ["quick", folder] => document(Plan { size: small, rounds: 3, folder, ours: None }),
-        ["quick", folder, ours] => document(Plan { size: small, rounds: 3, folder, ours: Some(ours) }),
+        ["all", folder] => document(Plan { size: full, rounds: 15, folder }),
+        ["quick", folder] => document(Plan { size: small, rounds: 3, folder }),
         ["count", who, name, size] => {
             let size = Size::of_words(size).unwrap_or_else(|| panic!("'{size}' is no size"));
             println!("{}", Bench::new(Recipe::named(name).make(size)).count(Who::named(who)));

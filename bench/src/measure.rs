@@ -13,8 +13,6 @@ pub struct Plan<'a> {
     pub rounds: usize,
     /// For inputs, listings and counts.
     pub folder: &'a str,
-    /// The product's command, where it is there.
-    pub ours: Option<&'a str>,
 }
 
 /// A ratio for one input, by time and, where they are counted, by instructions.
@@ -140,22 +138,21 @@ impl Plan<'_> {
 
     /// The table of the commands, and their lines.
     fn files(&self, bar: &mut Bar) -> (String, String) {
-        let head = ["input", "command", "seconds", "processor seconds", "times the first", "most memory, MiB"];
+        let head = ["input", "command", "seconds", "processor seconds", "times the first"];
         let mut table = Table::new(&head);
         let mut lines = Vec::new();
         for recipe in RECIPES.into_iter().filter(Recipe::is_barred) {
             let folder = format!("{}/{}", self.folder, recipe.name);
-            let input = recipe.make(self.size);
-            input.write(Path::new(&folder)).expect("the input's files can be written");
-            let tools = tools(&folder, recipe.streams, self.ours);
+            recipe.make(self.size).write(Path::new(&folder)).expect("the input's files can be written");
+            let tools = tools(&folder, recipe.streams);
             let found: Vec<usize> = tools.iter().map(Tool::found).collect();
             assert!(found.iter().all(|n| *n == found[0]), "the commands find {found:?} pairs of {}", recipe.name);
-            let (walls, used, peaks) = self.costs(&tools);
+            let (walls, used) = self.costs(&tools);
             for (k, tool) in tools.iter().enumerate() {
                 let ratio = walls[k].over(&walls[0]).median();
-                let cells = [walls[k].told(2), used[k].told(2), format!("{ratio:.2}"), format!("{:.0}", peaks[k])];
+                let cells = [walls[k].told(2), used[k].told(2), format!("{ratio:.2}")];
                 table.line([recipe.name.to_string(), tool.name.to_string()].into_iter().chain(cells));
-                if self.ours.is_some() && tool.name.starts_with("bedtools") {
+                if tool.name.starts_with("bedtools") {
                     bar.reached.push(Reached { input: recipe.name, time: ratio, instructions: None });
                 }
             }
@@ -169,19 +166,17 @@ impl Plan<'_> {
         self.rounds.min(7)
     }
 
-    /// Each command in turn, round by round: seconds on the wall, of processor time, and the most memory.
-    fn costs(&self, tools: &[Tool]) -> (Vec<Rounds>, Vec<Rounds>, Vec<f64>) {
+    /// Each command in turn, round by round: seconds on the wall, and of processor time.
+    fn costs(&self, tools: &[Tool]) -> (Vec<Rounds>, Vec<Rounds>) {
         let mut walls = vec![Rounds::default(); tools.len()];
         let mut used = walls.clone();
-        let mut peaks = vec![0.0f64; tools.len()];
         for _ in 0..self.file_rounds() {
             for (k, tool) in tools.iter().enumerate() {
                 let cost = tool.cost();
                 walls[k].0.push(cost.wall);
                 used[k].0.push(cost.processor);
-                peaks[k] = peaks[k].max(cost.peak);
             }
         }
-        (walls, used, peaks)
+        (walls, used)
     }
 }

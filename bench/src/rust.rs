@@ -1,7 +1,7 @@
 //! The Rust that is ported, unchanged, over rows in memory: plain overlap, skip-ahead off.
 
 use crate::chrom_ordering::{parse_genome, Chromosome};
-use crate::input::{Input, Row, GENOME};
+use crate::input::{list, Input, Row, GENOME};
 use crate::intersection::IntersectionIterator;
 use crate::interval::Interval;
 use crate::position::{Position, PositionedIterator};
@@ -27,8 +27,7 @@ impl PositionedIterator for Made {
 }
 
 pub fn genome() -> HashMap<String, Chromosome> {
-    let list: String = GENOME.iter().map(|(name, length)| format!("{name}\t{length}\n")).collect();
-    parse_genome(list.as_bytes()).expect("a list in memory")
+    parse_genome(list().as_bytes()).expect("a list in memory")
 }
 
 fn made(rows: &[Row]) -> Box<dyn PositionedIterator> {

@@ -2,11 +2,11 @@
 
 use crate::chrom_ordering::Chromosome;
 use crate::clock::thread_ns;
-use crate::input::{Input, Row};
+use crate::input::{list, Input, Row};
 use crate::intersection::IntersectionIterator;
-use crate::ours::{Columns, Ours};
 use crate::plain::Plain;
 use crate::rust;
+use cedarlash::{Answer, Columns, Genome, Records, Sweep};
 use hashbrown::HashMap;
 use std::hint::black_box;
 
@@ -39,15 +39,22 @@ impl Who {
 /// An input as each of the three takes it.
 pub struct Bench {
     pub input: Input,
+    genome: Genome,
     columns: Columns,
-    genome: HashMap<String, Chromosome>,
+    order: HashMap<String, Chromosome>,
 }
 
 /// A run that has begun, with the bases that it will be given.
 enum Job<'a> {
-    Ours(Ours<'a>, &'a [Row]),
+    Ours(Sweep<'a>, &'a [Row]),
     Plain(Plain<'a>, &'a [Row]),
     Rust(IntersectionIterator<'a>),
+}
+
+/// The records of a base that is not refused.
+fn found(answer: Answer<Records>) -> Records {
+    let Answer::Found { records, .. } = answer else { panic!("no base of the input is refused") };
+    records
 }
 
 /// Every base is given and its records are counted. callgrind counts the instructions of this function by its name.
@@ -58,7 +65,7 @@ fn bench_measured(job: Job) -> usize {
     match job {
         Job::Ours(mut run, bases) => {
             for &b in bases {
-                n += black_box(run.give(b)).0.len();
+                n += found(black_box(run.give(b))).len();
             }
         }
         Job::Plain(mut run, bases) => {
@@ -77,14 +84,23 @@ fn bench_measured(job: Job) -> usize {
 
 impl Bench {
     pub fn new(input: Input) -> Bench {
-        Bench { columns: Columns::of(&input), input, genome: rust::genome() }
+        let mut columns = Columns::new();
+        for rows in &input.streams {
+            columns.add_rows(rows.iter().copied());
+        }
+        let genome = Genome::read(list()).expect("the list is good");
+        Bench { input, genome, columns, order: rust::genome() }
+    }
+
+    fn ours(&self) -> Sweep<'_> {
+        Sweep::begin(&self.genome, &self.columns, ROOM).expect("the run begins")
     }
 
     fn job(&self, who: Who) -> Job<'_> {
         match who {
-            Who::Ours => Job::Ours(Ours::new(&self.columns, ROOM), &self.input.bases),
+            Who::Ours => Job::Ours(self.ours(), &self.input.bases),
             Who::Plain => Job::Plain(Plain::new(&self.input.streams), &self.input.bases),
-            Who::Rust => Job::Rust(rust::begin(&self.input, &self.genome)),
+            Who::Rust => Job::Rust(rust::begin(&self.input, &self.order)),
         }
     }
 
@@ -104,12 +120,11 @@ impl Bench {
     /// Stops unless the three find the same records for each base: ours and plain in the same order, the Rust with
     /// records of equal start as an unordered group. Gives how many were found.
     pub fn check(&self) -> usize {
-        let (mut ours, mut plain) = (Ours::new(&self.columns, ROOM), Plain::new(&self.input.streams));
-        let mut rust = rust::begin(&self.input, &self.genome);
+        let (mut ours, mut plain) = (self.ours(), Plain::new(&self.input.streams));
+        let mut rust = rust::begin(&self.input, &self.order);
         let mut n = 0;
         for &b in &self.input.bases {
-            let (streams, rows) = ours.give(b);
-            let ours: Vec<(usize, usize)> = streams.iter().zip(rows).map(|(&s, &r)| (s as usize, r as usize)).collect();
+            let ours: Vec<(usize, usize)> = found(ours.give(b)).iter().collect();
             assert_eq!(ours, plain.give(b), "ours and plain differ at {b:?}");
             let answer = rust.next().expect("an answer for each base").expect("no base is refused");
             let theirs = answer.overlapping.iter().map(|o| {
