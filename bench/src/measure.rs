@@ -138,7 +138,7 @@ impl Plan<'_> {
 
     /// The table of the commands, and their lines.
     fn files(&self, bar: &mut Bar) -> (String, String) {
-        let head = ["input", "command", "seconds", "processor seconds", "times the first"];
+        let head = ["input", "command", "seconds", "times the first", "processor seconds", "times the first"];
         let mut table = Table::new(&head);
         let mut lines = Vec::new();
         for recipe in RECIPES.into_iter().filter(Recipe::is_barred) {
@@ -150,7 +150,8 @@ impl Plan<'_> {
             let (walls, used) = self.costs(&tools);
             for (k, tool) in tools.iter().enumerate() {
                 let ratio = walls[k].over(&walls[0]).median();
-                let cells = [walls[k].told(2), used[k].told(2), format!("{ratio:.2}")];
+                let worked = used[k].over(&used[0]).median();
+                let cells = [walls[k].told(2), format!("{ratio:.2}"), used[k].told(2), format!("{worked:.2}")];
                 table.line([recipe.name.to_string(), tool.name.to_string()].into_iter().chain(cells));
                 if tool.name.starts_with("bedtools") {
                     bar.reached.push(Reached { input: recipe.name, time: ratio, instructions: None });
