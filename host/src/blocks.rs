@@ -29,7 +29,9 @@ impl<'a> Block<'a> {
 /// How many lines a text has; the last may lack its LF.
 fn lines_in(text: &[u8]) -> usize {
     let open = text.last().is_some_and(|&b| b != b'\n');
-    text.iter().filter(|&&b| b == b'\n').count() + usize::from(open)
+    // In parts whose count fits a byte: many bytes are then compared at a time.
+    let count = |part: &[u8]| part.iter().fold(0u8, |n, &b| n.wrapping_add(u8::from(b == b'\n')));
+    text.chunks(255).map(|part| usize::from(count(part))).sum::<usize>() + usize::from(open)
 }
 
 /// Reads blocks of about the size asked for; a longer line makes a longer block. A block is given as soon as a read

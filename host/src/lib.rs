@@ -6,6 +6,7 @@
 //! Within the limits (feature `library`): `list` and `list_ends` call the proved listing; [`paper`] is a second
 //! implementation, written from the scope document (01) alone, against which the program `differential` holds the first.
 #![deny(unsafe_op_in_unsafe_fn)]
+#![deny(unsafe_code)]
 
 pub mod blocks;
 #[cfg(feature = "inplace")]
@@ -15,6 +16,7 @@ mod genome;
 pub mod lines;
 pub mod paper;
 #[cfg(any(feature = "library", feature = "inplace"))]
+#[allow(unsafe_code)]
 mod raw;
 mod refusal;
 #[cfg(feature = "inplace")]

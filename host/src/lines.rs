@@ -1,15 +1,15 @@
 //! The lines of the listing, added to a buffer of bytes.
 
-/// The longest line but for a name: a mark, four numbers, tabs and the LF.
-const MOST: usize = 96;
+/// More than the longest line but for a name, which is a mark, four numbers, tabs and the LF: 86 bytes. A power of two, so that
+/// the compiler sees that no place modulo it lies outside.
+const MOST: usize = 128;
 
 /// Two digits each of 00 to 99.
-const PAIRS: [u8; 200] = {
-    let mut pairs = [0; 200];
+const PAIRS: [[u8; 2]; 100] = {
+    let mut pairs = [[0; 2]; 100];
     let mut n = 0;
     while n < 100 {
-        pairs[2 * n] = b'0' + (n / 10) as u8;
-        pairs[2 * n + 1] = b'0' + (n % 10) as u8;
+        pairs[n] = [b'0' + (n / 10) as u8, b'0' + (n % 10) as u8];
         n += 1;
     }
     pairs
@@ -28,24 +28,34 @@ impl Line {
     }
 
     fn byte(&mut self, byte: u8) {
-        self.at -= 1;
+        self.at = self.at.wrapping_sub(1) % MOST;
         self.bytes[self.at] = byte;
+    }
+
+    /// Two digits ahead of what is there.
+    fn pair(&mut self, n: u32) {
+        let [tens, ones] = PAIRS[n as usize];
+        self.byte(ones);
+        self.byte(tens);
     }
 
     /// A tab and a number, ahead of what is there.
     fn number(&mut self, mut n: u64) {
-        while n >= 100 {
-            let pair = (n % 100) as usize * 2;
-            n /= 100;
-            self.at -= 2;
-            self.bytes[self.at] = PAIRS[pair];
-            self.bytes[self.at + 1] = PAIRS[pair + 1];
+        // Four digits at a time: a division takes longer than all else here.
+        while n >= 10_000 {
+            let four = (n % 10_000) as u32;
+            n /= 10_000;
+            self.pair(four % 100);
+            self.pair(four / 100);
         }
-        if n >= 10 {
-            self.byte(PAIRS[n as usize * 2 + 1]);
-            self.byte(PAIRS[n as usize * 2]);
-        } else {
-            self.byte(b'0' + n as u8);
+        let mut n = n as u32;
+        if n >= 100 {
+            self.pair(n % 100);
+            n /= 100;
+        }
+        match n {
+            0..10 => self.byte(b'0' + n as u8),
+            _ => self.pair(n),
         }
         self.byte(b'\t');
     }

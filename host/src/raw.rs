@@ -117,86 +117,54 @@ mod inplace {
     const _: () = assert!(size_of::<Told>() == 56 && size_of::<Tally>() == 16 && size_of::<Mark>() == 32);
     const _: () = assert!(size_of::<usize>() == 8);
 
+    // Here and below a slice's two words stand on one line.
+    #[rustfmt::skip]
     extern "C" {
         fn cedarlash_begin(
             run: *mut Held,
-            from: *const usize,
-            from_len: usize,
-            to: *const usize,
-            to_len: usize,
+            from: *const usize, from_len: usize,
+            to: *const usize, to_len: usize,
             room: usize,
-            text: *const u8,
-            text_len: usize,
-            names_from: *const usize,
-            names_from_len: usize,
-            names_to: *const usize,
-            names_to_len: usize,
-            chrom: *const u64,
-            chrom_len: usize,
-            start: *const u64,
-            start_len: usize,
-            stop: *const u64,
-            stop_len: usize,
+            text: *const u8, text_len: usize,
+            names_from: *const usize, names_from_len: usize,
+            names_to: *const usize, names_to_len: usize,
+            chrom: *const u64, chrom_len: usize,
+            start: *const u64, start_len: usize,
+            stop: *const u64, stop_len: usize,
         ) -> u64;
         fn cedarlash_give(
             run: *mut Held,
-            bchrom: u64,
-            bstart: u64,
-            bstop: u64,
-            chrom: *const u64,
-            chrom_len: usize,
-            start: *const u64,
-            start_len: usize,
-            stop: *const u64,
-            stop_len: usize,
-            lengths: *const u64,
-            lengths_len: usize,
-            qstream: *mut u64,
-            qstream_len: usize,
-            qrow: *mut u64,
-            qrow_len: usize,
-            qstart: *mut u64,
-            qstart_len: usize,
-            qstop: *mut u64,
-            qstop_len: usize,
-            streams: *mut u64,
-            streams_len: usize,
-            rows: *mut u64,
-            rows_len: usize,
+            bchrom: u64, bstart: u64, bstop: u64,
+            chrom: *const u64, chrom_len: usize,
+            start: *const u64, start_len: usize,
+            stop: *const u64, stop_len: usize,
+            lengths: *const u64, lengths_len: usize,
+            qstream: *mut u64, qstream_len: usize,
+            qrow: *mut u64, qrow_len: usize,
+            qstart: *mut u64, qstart_len: usize,
+            qstop: *mut u64, qstop_len: usize,
+            streams: *mut u64, streams_len: usize,
+            rows: *mut u64, rows_len: usize,
         ) -> Told;
         fn cedarlash_read_list(
-            text: *const u8,
-            text_len: usize,
-            from: *mut usize,
-            from_len: usize,
-            to: *mut usize,
-            to_len: usize,
-            len: *mut u64,
-            len_len: usize,
+            text: *const u8, text_len: usize,
+            from: *mut usize, from_len: usize,
+            to: *mut usize, to_len: usize,
+            len: *mut u64, len_len: usize,
         ) -> Tally;
         fn cedarlash_read_rows(
-            text: *const u8,
-            text_len: usize,
-            list: *const u8,
-            list_len: usize,
-            from: *const usize,
-            from_len: usize,
-            to: *const usize,
-            to_len: usize,
-            chrom: *mut u64,
-            chrom_len: usize,
-            start: *mut u64,
-            start_len: usize,
-            stop: *mut u64,
-            stop_len: usize,
+            text: *const u8, text_len: usize,
+            list: *const u8, list_len: usize,
+            from: *const usize, from_len: usize,
+            to: *const usize, to_len: usize,
+            chrom: *mut u64, chrom_len: usize,
+            start: *mut u64, start_len: usize,
+            stop: *mut u64, stop_len: usize,
         ) -> Tally;
         fn cedarlash_check_list(
-            text: *const u8,
-            text_len: usize,
-            from: *const usize,
-            from_len: usize,
-            to: *const usize,
-            to_len: usize,
+            text: *const u8, text_len: usize,
+            from: *const usize, from_len: usize,
+            to: *const usize, to_len: usize,
         ) -> u64;
     }
 
@@ -225,40 +193,36 @@ mod inplace {
     }
 
     /// Reads a chromosome list to where each name begins and ends, and its length.
+    #[rustfmt::skip]
     pub fn read_list(text: &[u8], from: &mut [usize], to: &mut [usize], len: &mut [u64]) -> Tally {
         assert!(from.len() == to.len() && from.len() == len.len(), "columns of one length");
         // SAFETY: as said at the head of this file; the three columns are borrowed mutably, so they share no byte.
         unsafe {
             cedarlash_read_list(
-                text.as_ptr(),
-                text.len(),
-                from.as_mut_ptr(),
-                from.len(),
-                to.as_mut_ptr(),
-                to.len(),
-                len.as_mut_ptr(),
-                len.len(),
+                text.as_ptr(), text.len(),
+                from.as_mut_ptr(), from.len(),
+                to.as_mut_ptr(), to.len(),
+                len.as_mut_ptr(), len.len(),
             )
         }
     }
 
     /// Whether the names are such that a run can begin: 0, 1 or 2.
+    #[rustfmt::skip]
     pub fn check_list(names: Names) -> u64 {
         assert!(names.from.len() == names.to.len(), "columns of one length");
         // SAFETY: as said at the head of this file; nothing is written.
         unsafe {
             cedarlash_check_list(
-                names.text.as_ptr(),
-                names.text.len(),
-                names.from.as_ptr(),
-                names.from.len(),
-                names.to.as_ptr(),
-                names.to.len(),
+                names.text.as_ptr(), names.text.len(),
+                names.from.as_ptr(), names.from.len(),
+                names.to.as_ptr(), names.to.len(),
             )
         }
     }
 
     /// Reads BED text to columns.
+    #[rustfmt::skip]
     pub fn read_rows(text: &[u8], names: Names, chrom: &mut [u64], start: &mut [u64], stop: &mut [u64]) -> Tally {
         assert!(names.from.len() == names.to.len(), "columns of one length");
         assert!(chrom.len() == start.len() && chrom.len() == stop.len(), "columns of one length");
@@ -266,25 +230,19 @@ mod inplace {
         // each other, the text or the names.
         unsafe {
             cedarlash_read_rows(
-                text.as_ptr(),
-                text.len(),
-                names.text.as_ptr(),
-                names.text.len(),
-                names.from.as_ptr(),
-                names.from.len(),
-                names.to.as_ptr(),
-                names.to.len(),
-                chrom.as_mut_ptr(),
-                chrom.len(),
-                start.as_mut_ptr(),
-                start.len(),
-                stop.as_mut_ptr(),
-                stop.len(),
+                text.as_ptr(), text.len(),
+                names.text.as_ptr(), names.text.len(),
+                names.from.as_ptr(), names.from.len(),
+                names.to.as_ptr(), names.to.len(),
+                chrom.as_mut_ptr(), chrom.len(),
+                start.as_mut_ptr(), start.len(),
+                stop.as_mut_ptr(), stop.len(),
             )
         }
     }
 
     /// Begins a run in `held`: 0, or why not, in which case `held` is the run of no streams.
+    #[rustfmt::skip]
     pub fn begin(held: &mut Held, from: &[usize], to: &[usize], room: usize, names: Names, cols: Cols) -> u64 {
         assert!(from.len() == to.len() && names.from.len() == names.to.len(), "columns of one length");
         assert!(cols.chrom.len() == cols.start.len() && cols.chrom.len() == cols.stop.len(), "columns of one length");
@@ -292,28 +250,21 @@ mod inplace {
         unsafe {
             cedarlash_begin(
                 held,
-                from.as_ptr(),
-                from.len(),
-                to.as_ptr(),
-                to.len(),
+                from.as_ptr(), from.len(),
+                to.as_ptr(), to.len(),
                 room,
-                names.text.as_ptr(),
-                names.text.len(),
-                names.from.as_ptr(),
-                names.from.len(),
-                names.to.as_ptr(),
-                names.to.len(),
-                cols.chrom.as_ptr(),
-                cols.chrom.len(),
-                cols.start.as_ptr(),
-                cols.start.len(),
-                cols.stop.as_ptr(),
-                cols.stop.len(),
+                names.text.as_ptr(), names.text.len(),
+                names.from.as_ptr(), names.from.len(),
+                names.to.as_ptr(), names.to.len(),
+                cols.chrom.as_ptr(), cols.chrom.len(),
+                cols.start.as_ptr(), cols.start.len(),
+                cols.stop.as_ptr(), cols.stop.len(),
             )
         }
     }
 
     /// Gives a base to the run. Its records stand at the front of `streams` and `rows` afterwards.
+    #[rustfmt::skip]
     pub fn give(
         held: &mut Held,
         base: Base,
@@ -335,29 +286,17 @@ mod inplace {
         unsafe {
             cedarlash_give(
                 held,
-                base.chrom,
-                base.start,
-                base.stop,
-                cols.chrom.as_ptr(),
-                cols.chrom.len(),
-                cols.start.as_ptr(),
-                cols.start.len(),
-                cols.stop.as_ptr(),
-                cols.stop.len(),
-                lengths.as_ptr(),
-                lengths.len(),
-                queue.stream.as_mut_ptr(),
-                queue.stream.len(),
-                queue.row.as_mut_ptr(),
-                queue.row.len(),
-                queue.start.as_mut_ptr(),
-                queue.start.len(),
-                queue.stop.as_mut_ptr(),
-                queue.stop.len(),
-                streams.as_mut_ptr(),
-                streams.len(),
-                rows.as_mut_ptr(),
-                rows.len(),
+                base.chrom, base.start, base.stop,
+                cols.chrom.as_ptr(), cols.chrom.len(),
+                cols.start.as_ptr(), cols.start.len(),
+                cols.stop.as_ptr(), cols.stop.len(),
+                lengths.as_ptr(), lengths.len(),
+                queue.stream.as_mut_ptr(), queue.stream.len(),
+                queue.row.as_mut_ptr(), queue.row.len(),
+                queue.start.as_mut_ptr(), queue.start.len(),
+                queue.stop.as_mut_ptr(), queue.stop.len(),
+                streams.as_mut_ptr(), streams.len(),
+                rows.as_mut_ptr(), rows.len(),
             )
         }
     }

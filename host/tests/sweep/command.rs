@@ -120,6 +120,26 @@ fn refused_bases_and_ended_runs() {
     assert_eq!(said, "cedarlash sweep: a: line 1: refusal 9: no room in the queue (-q 1); the run ended\n");
 }
 
+/// The room is what `-q` says, or as large as it can be.
+#[test]
+fn room() {
+    let folder = sample();
+    let wait = |count: usize, words: &[&str]| {
+        folder.put("wait", "one\t0\t1000\n".repeat(count));
+        let (status, out, _) = folder.run(&[&["-g", "g", "-a", "a", "-b", "wait"], words].concat());
+        match status {
+            0 => {
+                let records = (0..count).map(|row| format!("R\t0\t{row}\t0\t1000\n"));
+                assert_eq!(out, format!("B\tone\t25\t35\t{count}\n") + &records.collect::<String>());
+            }
+            _ => assert_eq!((status, out.as_str()), (1, "X\t9\t0\n")),
+        }
+        status == 0
+    };
+    assert!(wait(3000, &["-q", "3000"]) && !wait(3001, &["-q", "3000"]));
+    assert!(wait(65_536, &[]) && !wait(65_537, &[]) && wait(1, &["-q", "1"]));
+}
+
 #[test]
 fn standard_input() {
     let folder = sample();

@@ -122,6 +122,24 @@ fn random_jobs_by_the_api() {
     }
 }
 
+/// Both archives in one program: the listing's one call and the run over columns give the same bytes.
+#[cfg(feature = "library")]
+#[test]
+fn the_proved_listing() {
+    let mut rng = Rng(16);
+    let mut out = vec![0; 1 << 20];
+    for n in 0..20_000 {
+        let texts = make::job(&mut rng, n % 4);
+        let streams: Vec<&[u8]> = texts[2..].iter().map(Vec::as_slice).collect();
+        let told = cedarlash::list(&texts[0], &texts[1], &streams, &mut out);
+        let listing = &out[..told.length];
+        assert!(told.number == 0 && listing == witness(&texts), "{}", show(&texts));
+        if (1..=8).contains(&streams.len()) && !listing.starts_with(b"X\t11\t1\t") {
+            assert!(listed(&texts, 1024, 64).1 == listing, "{}", show(&texts));
+        }
+    }
+}
+
 #[test]
 fn random_jobs_by_the_command() {
     let mut rng = Rng(12);

@@ -1,4 +1,5 @@
 //! The listing of files of any size: `./cedarlash sweep -g LIST -a BASES -b STREAM...`. [`usage::HELP`] says the rest.
+#![forbid(unsafe_code)]
 
 mod job;
 mod progress;
