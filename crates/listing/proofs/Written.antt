@@ -23,8 +23,6 @@ use Rattle.texts.specs.declared.Read.{Read}
 use Rattle.texts.specs.declared.Verdict.{Verdict}
 use Rattle.texts.specs.declared.Verdict.the-variants as verdict
 use Rattle.rules.specs.Job.{answers}
-use Rattle.walk.specs.Run.{Fine}
-use Rattle.walk.proofs.Beginning.{fine-sizes}
 use Rattle.listing.specs.Listing.{runLines, unlessFault, listing}
 use Rattle.listing.specs.Run.{toldOf}
 use Rattle.listing.specs.Call.{heldOf, Writes}
@@ -33,12 +31,6 @@ use Rattle.listing.specs.declared.Listing.{Listing}
 -- ---- the verdict
 
 module _ {t : Texts} {r : Read} {from to len : List ℕ} {b s : Cols} (h : Reads t r from to len b s) where
-  -- nothing is wrong
-  pub reads-fine : r .verdict ≡ verdict.Fine → Fine t r from to len b s
-  reads-fine e =
-      let none-wrong : faultOf t ≡ none = sym (h .fault) ∙ ap faultBy e in
-      record { fine = none-wrong; eight = h .eight; rooms = h .rooms; columns = h .columns (fine-sizes t none-wrong) }
-
   -- "A fault before the run gives one line"
   pub reads-fault : {number text ahead : ℕ} {put : Put} {x : Laid} {old new : List ℕ} → r .verdict ≡ verdict.Fault number text ahead → Puts old 0 (lineF number text ahead) put new → x ≡ onlyOf put 0 → Lays old 0 (listing t) x new
   unfolding listing

@@ -1,5 +1,5 @@
-use borrow.Author.Needs.{needs}
 -- `listing::list_bases` meets its contract: one base more at a time. Assumes nothing.
+use borrow.Author.Needs.{needs}
 use Rattle.listing.proofs.Telling.{Telling, telling-start, telling-end, telling-done, telling-on, Lengths, bases-fewer}
 use Rattle.listing.specs.Run.{linesFrom}
 use Rattle.sweep.specs.Settle.{lent}

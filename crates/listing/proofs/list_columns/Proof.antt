@@ -1,5 +1,6 @@
 -- `listing::list_columns` meets its contract: the texts are read, and a fault or the bases are listed. Assumes nothing.
-use Rattle.listing.proofs.Written.{reads-fine, reads-fault}
+use Rattle.walk.proofs.FineLaws.{fine-read}
+use Rattle.listing.proofs.Written.{reads-fault}
 use borrow.Author.Needs.{needs}
 use Rattle.listing.proofs.list_columns.Statement.{statement}
 use Rattle.listing.proofs.list_columns.Tie as tie
@@ -20,7 +21,7 @@ enum-told c = search needs
 
 -- src/lib.rt:176:26
 list-run-requires : tie.Need-list-run-requires
-list-run-requires c κs = reads-fine (c .before .before .before .before .before .before .before .before .before .before .before .before .before .before .before .before .before .before .before .before .before .before .before .before .before .before .before .before .before .before .read-texts .ensures) (c .before .before .before .before .before .before .before .before .before .before .enum-told .given .1)
+list-run-requires c κs = fine-read (c .before .before .before .before .before .before .before .before .before .before .before .before .before .before .before .before .before .before .before .before .before .before .before .before .before .before .before .before .before .before .read-texts .ensures) (c .before .before .before .before .before .before .before .before .before .before .enum-told .given .1)
 
 -- src/lib.rt:179:24
 enum-known-verdict : tie.Need-enum-known-verdict

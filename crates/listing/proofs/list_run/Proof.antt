@@ -1,5 +1,6 @@
 -- `listing::list_run` meets its contract: the run begins, and its bases are listed. Assumes nothing.
-use Rattle.listing.proofs.Listed.{some-ends, list-inside, names-from, names-to, names-len, bases-stand, run-comes, run-listed}
+use Rattle.walk.proofs.FineLaws.{list-ends, list-in, names-from, names-to, names-len, bases-read}
+use Rattle.listing.proofs.Listed.{run-comes, run-listed}
 use Rattle.queue.specs.Ring.{cells}
 use lib.Seq.{length-take-le}
 use native.Mathlib.Omega.{arith}
@@ -14,27 +15,27 @@ use Rattle.walk.proofs.begin.Reads as begin-reads
 
 -- src/lib.rt:119:13
 shared-slice-read-a : tie.Need-shared-slice-read-a
-shared-slice-read-a c = omega (arith, some-ends (c .before .before .before .before .before .before .before .before .before .before .before .before .before .args .bytes .now) (c .before .before .before .before .before .before .before .before .before .before .before .before .before .args .ends .now) (c .before .before .before .before .before .before .before .before .before .before .before .before .before .pre))
+shared-slice-read-a c = omega (arith, list-ends (c .before .before .before .before .before .before .before .before .before .before .before .before .before .args .bytes .now) (c .before .before .before .before .before .before .before .before .before .before .before .before .before .args .ends .now) (c .before .before .before .before .before .before .before .before .before .before .before .before .before .pre))
 
 -- src/lib.rt:120:9
 slice-aggregate-list : tie.Need-slice-aggregate-list
-slice-aggregate-list c = sym (length-take-le _ _ (list-inside (c .before .before .before .before .before .before .before .before .before .before .before .before .before .before .args .bytes .now) (c .before .before .before .before .before .before .before .before .before .before .before .before .before .before .args .ends .now) (c .before .before .before .before .before .before .before .before .before .before .before .before .before .before .pre)))
+slice-aggregate-list c = sym (length-take-le _ _ (list-in (c .before .before .before .before .before .before .before .before .before .before .before .before .before .before .args .bytes .now) (c .before .before .before .before .before .before .before .before .before .before .before .before .before .before .args .ends .now) (c .before .before .before .before .before .before .before .before .before .before .before .before .before .before .pre)))
 
 -- src/lib.rt:123:9
 begin-requires : tie.Need-begin-requires
-begin-requires c κs = (names-from (c .before .before .before .before .before .before .before .before .before .before .before .before .before .before .args .bytes .now) (c .before .before .before .before .before .before .before .before .before .before .before .before .before .before .args .ends .now) (c .before .before .before .before .before .before .before .before .before .before .before .before .before .before .pre), names-to (c .before .before .before .before .before .before .before .before .before .before .before .before .before .before .args .bytes .now) (c .before .before .before .before .before .before .before .before .before .before .before .before .before .before .args .ends .now) (c .before .before .before .before .before .before .before .before .before .before .before .before .before .before .pre))
+begin-requires c κs = (names-from (c .before .before .before .before .before .before .before .before .before .before .before .before .before .before .pre), names-to (c .before .before .before .before .before .before .before .before .before .before .before .before .before .before .pre))
 
 -- src/lib.rt:134:9
 slice-aggregate-list-bases : tie.Need-slice-aggregate-list-bases
-slice-aggregate-list-bases c = sym (length-take-le _ _ (names-from (c .before .before .before .before .before .before .before .before .before .before .before .before .before .before .before .before .args .bytes .now) (c .before .before .before .before .before .before .before .before .before .before .before .before .before .before .before .before .args .ends .now) (c .before .before .before .before .before .before .before .before .before .before .before .before .before .before .before .before .pre)))
+slice-aggregate-list-bases c = sym (length-take-le _ _ (names-from (c .before .before .before .before .before .before .before .before .before .before .before .before .before .before .before .before .pre)))
 
 -- src/lib.rt:135:9
 slice-aggregate-list-bases-2 : tie.Need-slice-aggregate-list-bases-2
-slice-aggregate-list-bases-2 c = sym (length-take-le _ _ (names-to (c .before .before .before .before .before .before .before .before .before .before .before .before .before .before .before .before .before .args .bytes .now) (c .before .before .before .before .before .before .before .before .before .before .before .before .before .before .before .before .before .args .ends .now) (c .before .before .before .before .before .before .before .before .before .before .before .before .before .before .before .before .before .pre)))
+slice-aggregate-list-bases-2 c = sym (length-take-le _ _ (names-to (c .before .before .before .before .before .before .before .before .before .before .before .before .before .before .before .before .before .pre)))
 
 -- src/lib.rt:136:9
 slice-aggregate-list-bases-3 : tie.Need-slice-aggregate-list-bases-3
-slice-aggregate-list-bases-3 c = sym (length-take-le _ _ (names-len (c .before .before .before .before .before .before .before .before .before .before .before .before .before .before .before .before .before .before .args .bytes .now) (c .before .before .before .before .before .before .before .before .before .before .before .before .before .before .before .before .before .before .args .ends .now) (c .before .before .before .before .before .before .before .before .before .before .before .before .before .before .before .before .before .before .pre)))
+slice-aggregate-list-bases-3 c = sym (length-take-le _ _ (names-len (c .before .before .before .before .before .before .before .before .before .before .before .before .before .before .before .before .before .before .pre)))
 
 -- src/lib.rt:143:9
 slice-aggregate-list-bases-4 : tie.Need-slice-aggregate-list-bases-4
@@ -62,7 +63,7 @@ slice-aggregate-list-bases-9 c = search needs
 
 -- src/lib.rt:130:5
 list-bases-requires : tie.Need-list-bases-requires
-list-bases-requires c κs = (bases-stand (c .before .before .before .before .before .before .before .before .before .before .before .before .before .before .before .before .before .before .before .before .before .before .before .before .before .args .bytes .now) (c .before .before .before .before .before .before .before .before .before .before .before .before .before .before .before .before .before .before .before .before .before .before .before .before .before .args .ends .now) (c .before .before .before .before .before .before .before .before .before .before .before .before .before .before .before .before .before .before .before .before .before .before .before .before .before .pre), run-comes (c .before .before .before .before .before .before .before .before .before .before .before .before .before .before .before .before .before .before .before .before .before .before .before .before .before .args .bytes .now) (c .before .before .before .before .before .before .before .before .before .before .before .before .before .before .before .before .before .before .before .before .before .before .before .before .before .args .ends .now) (c .before .before .before .before .before .before .before .before .before .before .before .before .before .before .before .before .before .before .before .before .before .before .before .before .before .pre) (c .before .before .before .before .before .before .before .before .before .before .begin .ensures) (cells _ _ _ _) (record { stream = refl; row = refl; start = refl; stop = refl }), refl, refl)
+list-bases-requires c κs = (bases-read (c .before .before .before .before .before .before .before .before .before .before .before .before .before .before .before .before .before .before .before .before .before .before .before .before .before .args .bytes .now) (c .before .before .before .before .before .before .before .before .before .before .before .before .before .before .before .before .before .before .before .before .before .before .before .before .before .args .ends .now) (c .before .before .before .before .before .before .before .before .before .before .before .before .before .before .before .before .before .before .before .before .before .before .before .before .before .pre), run-comes (c .before .before .before .before .before .before .before .before .before .before .before .before .before .before .before .before .before .before .before .before .before .before .before .before .before .args .bytes .now) (c .before .before .before .before .before .before .before .before .before .before .before .before .before .before .before .before .before .before .before .before .before .before .before .before .before .args .ends .now) (c .before .before .before .before .before .before .before .before .before .before .before .before .before .before .before .before .before .before .before .before .before .before .before .before .before .pre) (c .before .before .before .before .before .before .before .before .before .before .begin .ensures) (cells _ _ _ _) (record { stream = refl; row = refl; start = refl; stop = refl }), refl, refl)
 
 -- src/lib.rt:101:1
 same-length : tie.Need-same-length

@@ -1,5 +1,5 @@
-use borrow.Author.Needs.{needs}
 -- `texts::parts_all` meets its contract: what is left of the ends decides. Assumes nothing.
+use borrow.Author.Needs.{needs}
 use Rattle.texts.proofs.Parting.{Parting, parting-start, parting-falls, parting-next, parting-end}
 use lib.ListN.{length}
 use native.Mathlib.Omega.{arith}

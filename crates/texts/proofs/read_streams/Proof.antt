@@ -1,5 +1,5 @@
-use borrow.Author.Needs.{needs}
 -- `texts::read_streams` meets its contract: one stream's text more at a time. Assumes nothing.
+use borrow.Author.Needs.{needs}
 use Rattle.texts.proofs.Streaming.{some-ends, few-ends, streams-few, streams-all, ends-apart, ends-within, stream-text, stream-slots, Streaming, streaming-start, streaming-got, streaming-top, streaming-end}
 use Rattle.texts.specs.Parted.{streamTexts}
 use Rattle.heads.specs.View.{cols}

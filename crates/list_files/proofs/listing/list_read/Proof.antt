@@ -1,7 +1,7 @@
 -- `list_files::listing::list_read` meets its contract: the columns hold what its calls ask for. Assumes nothing.
 use mathlib.Core.Path.{sym}
 use lib.Seq.{length-take-le}
-use Rattle.list_files.proofs.FineLaws.{list-ends, list-in, names-from, names-to, names-len, bases-read}
+use Rattle.walk.proofs.FineLaws.{list-ends, list-in, names-from, names-to, names-len, bases-read}
 use borrow.Author.Needs.{needs}
 use Rattle.list_files.proofs.listing.list_read.Statement.{statement}
 use Rattle.list_files.proofs.listing.list_read.Tie as tie

@@ -1,5 +1,5 @@
 -- `list_files::listing::list_texts` meets its contract: nothing is wrong where the verdict says so. Assumes nothing.
-use Rattle.list_files.proofs.FineLaws.{fine-read}
+use Rattle.walk.proofs.FineLaws.{fine-read}
 use borrow.Author.Needs.{needs}
 use Rattle.list_files.proofs.listing.list_texts.Statement.{statement}
 use Rattle.list_files.proofs.listing.list_texts.Tie as tie

@@ -52,7 +52,7 @@ module _ (bytes ends : List ℕ) {r : Read} {from to len : List ℕ} {b s : Cols
   pub list-in : getD ends 0 0 ≤ length bytes
   list-in = list-within bytes ends sized
 
-  list-is : textsOf bytes ends .list ≡ take (getD ends 0 0) bytes
+  pub list-is : textsOf bytes ends .list ≡ take (getD ends 0 0) bytes
   list-is = texts-list bytes ends sized ∙ ap (λ (n : ℕ). take n bytes) (sub-zero (getD ends 0 0))
 
   pub bases-read : Bases (take (getD ends 0 0) bytes) (take (r .names) from) (take (r .names) to) b (r .bases)

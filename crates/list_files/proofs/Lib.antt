@@ -1,2 +1,0 @@
--- Laws of the program that lists files.
-pub mod FineLaws
