@@ -71,7 +71,7 @@ pub fn test(subject: Subject, names: &[String], page: bool) -> u8 {
 const PAGE: &str = "# The listing against a second implementation
 
 A full run of `differential record`, unchanged: the proved library, compiled and linked into the Rust host, against
-`host/src/paper.rs`, which was written from the scope document alone. Both are given the same bytes, and number, length
+`host/src/paper.rs`, which was written from the scope document and, for how texts are handed over, from what the call says. Both are given the same bytes, and number, length
 and every byte of the buffer must agree. `host/slips.txt` names the mistakes that these tests were seen to catch.
 ";
 
