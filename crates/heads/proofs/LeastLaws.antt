@@ -25,6 +25,11 @@ unfolding betterOf
 best-none q ended n zero i h = refl
 best-none q ended n (suc k) i h = rw (le-leb n i h) (best-none q ended n k (suc i) (omega arith))
 
+-- the best from place i on, from the best behind it
+pub best-step : (q : List (List ℕ)) (ended : List Bool) (n k i : ℕ) (b p : Best) (m : ℕ) (x : List ℕ) → b ≡ betterOf (record { 0 = i }) m x (getD ended i false) p → m ≡ n → x ≡ getD q i [] → p ≡ bestFrom q ended n k (suc i)
+    → b ≡ bestFrom q ended n (suc k) i
+best-step q ended n k i b p m x e f g h = e ∙ rw (f, g, h)
+
 -- of two heads, the earlier stream's is taken unless the other is sooner
 ahead-sooner : (x y : Record) (l : List ℕ) → x .stream .0 ≤ y .stream .0 → x ≡ recordFrom (x .stream .0) l → ahead x y ≡ not (sooner (headOf y) l)
 unfolding sooner

@@ -10,7 +10,7 @@ ghost use Rattle.rules.specs.Overlap.{taken, live};
 ghost use Rattle.rules.specs.Streams.{ahead};
 ghost use Rattle.rules.specs.Merge.{pick};
 ghost use Rattle.lists.specs.Build.{build};
-ghost use Rattle.heads.specs.View.{cols, rowAt, foursOf, leftAt};
+ghost use Rattle.heads.specs.View.{cols, rowAt, fourAt, foursOf, leftAt};
 ghost use Rattle.heads.specs.Least.{headOf, sooner, bestAt, betterOf, leastIn};
 ghost use Rattle.heads.specs.Load.{opensAt, loadOne, wrongFirst, unlessWrongIn, LoadsAs};
 ghost use Rattle.heads.specs.Move.{endsAt, bestRecord, nextRow, nextRecord, checkOf, takes, moveOf, behindBy, PlacedIn, Placed, nextOf};
@@ -99,20 +99,18 @@ pub fn place_in(x: u64) -> usize
     x as usize
 }
 
-// The heads as eight four-number arrays.
-pub fn fours(chrom: [u64; 8], start: [u64; 8], stop: [u64; 8], row: [u64; 8]) -> [[u64; 4]; 8]
-    ensures { λ q. ⌜ q ≡ foursOf chrom start stop row ⌝ }
+// The head of stream k as four numbers.
+fn four_at<'a>(
+    chrom: &'a [u64; 8],
+    start: &'a [u64; 8],
+    stop: &'a [u64; 8],
+    row: &'a [u64; 8],
+    k: usize,
+) -> [u64; 4]
+    requires { ⌜ k < 8 ⌝ }
+    ensures { λ x. ⌜ x ≡ fourAt (now (chrom .entry)) (now (start .entry)) (now (stop .entry)) (now (row .entry)) k ⌝ }
 {
-    [
-        [chrom[0], start[0], stop[0], row[0]],
-        [chrom[1], start[1], stop[1], row[1]],
-        [chrom[2], start[2], stop[2], row[2]],
-        [chrom[3], start[3], stop[3], row[3]],
-        [chrom[4], start[4], stop[4], row[4]],
-        [chrom[5], start[5], stop[5], row[5]],
-        [chrom[6], start[6], stop[6], row[6]],
-        [chrom[7], start[7], stop[7], row[7]],
-    ]
+    [chrom[k], start[k], stop[k], row[k]]
 }
 
 // Whether a head is before four numbers, by chromosome, start and stop.
@@ -169,9 +167,16 @@ fn better(k: Stream, n: u64, x: [u64; 4], dead: bool, b: Best) -> Best
 }
 
 // The least head of n streams, the earlier stream's of equal ones.
-pub fn least_of(q: [[u64; 4]; 8], ended: [bool; 8], n: usize) -> Best
+pub fn least_of<'a>(
+    chrom: &'a [u64; 8],
+    start: &'a [u64; 8],
+    stop: &'a [u64; 8],
+    row: &'a [u64; 8],
+    ended: &'a [bool; 8],
+    n: usize,
+) -> Best
     requires { ⌜ n ≤ 8 ⌝ }
-    ensures { λ r. ⌜ r ≡ leastIn q ended n ⌝ }
+    ensures { λ r. ⌜ r ≡ leastIn (foursOf (now (chrom .entry)) (now (start .entry)) (now (stop .entry)) (now (row .entry))) (now (ended .entry)) n ⌝ }
 {
     let none = Best {
         stream: Stream(8),
@@ -181,18 +186,26 @@ pub fn least_of(q: [[u64; 4]; 8], ended: [bool; 8], n: usize) -> Best
         row: 0,
     };
     let m = number(n);
+    let x0 = four_at(chrom, start, stop, row, 0);
+    let x1 = four_at(chrom, start, stop, row, 1);
     if n <= 2 {
-        let one = better(Stream(1), m, q[1], ended[1], none);
-        return better(Stream(0), m, q[0], ended[0], one);
+        let one = better(Stream(1), m, x1, ended[1], none);
+        return better(Stream(0), m, x0, ended[0], one);
     }
-    let seven = better(Stream(7), m, q[7], ended[7], none);
-    let six = better(Stream(6), m, q[6], ended[6], seven);
-    let five = better(Stream(5), m, q[5], ended[5], six);
-    let four = better(Stream(4), m, q[4], ended[4], five);
-    let three = better(Stream(3), m, q[3], ended[3], four);
-    let two = better(Stream(2), m, q[2], ended[2], three);
-    let one = better(Stream(1), m, q[1], ended[1], two);
-    better(Stream(0), m, q[0], ended[0], one)
+    let x7 = four_at(chrom, start, stop, row, 7);
+    let seven = better(Stream(7), m, x7, ended[7], none);
+    let x6 = four_at(chrom, start, stop, row, 6);
+    let six = better(Stream(6), m, x6, ended[6], seven);
+    let x5 = four_at(chrom, start, stop, row, 5);
+    let five = better(Stream(5), m, x5, ended[5], six);
+    let x4 = four_at(chrom, start, stop, row, 4);
+    let four = better(Stream(4), m, x4, ended[4], five);
+    let x3 = four_at(chrom, start, stop, row, 3);
+    let three = better(Stream(3), m, x3, ended[3], four);
+    let x2 = four_at(chrom, start, stop, row, 2);
+    let two = better(Stream(2), m, x2, ended[2], three);
+    let one = better(Stream(1), m, x1, ended[1], two);
+    better(Stream(0), m, x0, ended[0], one)
 }
 
 // Whether a head is taken at a base: it lies on an earlier chromosome, or on the base's with start < base stop.
@@ -344,11 +357,14 @@ pub fn is_placed<'a>(
     true
 }
 
-// What the next turn of a pull at a base comes to. The heads are q, the streams' next rows, first places and ends are lent, and so are the
-// columns; n is the number of chromosomes.
+// What the next turn of a pull at a base comes to. Lent are the heads' chromosomes, starts, stops and rows, which streams have ended, the
+// streams' next rows, first places and ends, and the columns; n is the number of chromosomes.
 pub fn decide<'a>(
-    q: [[u64; 4]; 8],
-    ended: [bool; 8],
+    hchrom: &'a [u64; 8],
+    hstart: &'a [u64; 8],
+    hstop: &'a [u64; 8],
+    hrow: &'a [u64; 8],
+    ended: &'a [bool; 8],
     streams: usize,
     next: &'a [usize; 8],
     from: &'a [usize; 8],
@@ -360,9 +376,9 @@ pub fn decide<'a>(
     stop: &[u64],
 ) -> Move
     requires { ⌜ Placed (cols (now chrom) (now start) (now stop)) streams (now next) (now from) (now to) ⌝ }
-    ensures { λ r. ⌜ r ≡ moveOf n b (now (next .entry)) (pick ahead (build (leftAt q ended (behindBy (cols (now (chrom .entry)) (now (start .entry)) (now (stop .entry))) (now (next .entry)) (now (from .entry)) (now (to .entry)))) streams 0)) ⌝ }
+    ensures { λ r. ⌜ r ≡ moveOf n b (now (next .entry)) (pick ahead (build (leftAt (foursOf (now (hchrom .entry)) (now (hstart .entry)) (now (hstop .entry)) (now (hrow .entry))) (now (ended .entry)) (behindBy (cols (now (chrom .entry)) (now (start .entry)) (now (stop .entry))) (now (next .entry)) (now (from .entry)) (now (to .entry)))) streams 0)) ⌝ }
 {
-    let h = least_of(q, ended, streams);
+    let h = least_of(hchrom, hstart, hstop, hrow, ended, streams);
     let s = h.stream;
     if s.0 == 8 {
         return Move::Stay(h);

@@ -49,15 +49,12 @@ fn turn(h: Heads, b: Base, n: u64, chrom: &[u64], start: &[u64], stop: &[u64]) -
     requires { ⌜ Placed (cols (now chrom) (now start) (now stop)) (h .streams) (h .next) (h .from) (h .to) ⌝ }
     ensures { λ r. ⌜ r ≡ moveOf n b (h .next) (pick ahead (restsOf (cols (now (chrom .entry)) (now (start .entry)) (now (stop .entry))) h)) ⌝ }
 {
-    let c = h.chrom;
-    let a = h.start;
-    let e = h.stop;
-    let r = h.row;
-    let q = heads::fours(c, a, e, r);
-    let ended = h.ended;
     heads::decide(
-        q,
-        ended,
+        &h.chrom,
+        &h.start,
+        &h.stop,
+        &h.row,
+        &h.ended,
         h.streams,
         &h.next,
         &h.from,

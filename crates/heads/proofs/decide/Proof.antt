@@ -2,6 +2,7 @@
 use borrow.Author.Tests.{not-true, not-false}
 use Rattle.heads.proofs.MoveLaws.{decided-ends, decided-follows}
 use mathlib.Core.Path.{_≡_, sym, ap, _∙_}
+use mathlib.Core.Bool.{Bool}
 use mathlib.Core.List.{List}
 use Prim.Native.Nat.{ℕ, _<_, _≤_, _+_}
 use native.Mathlib.Omega.{arith}
@@ -9,7 +10,7 @@ use denote.Ref.{now}
 use lib.ListN.{getD}
 use Rattle.rules.specs.Rows.{Record}
 use Rattle.heads.specs.declared.Best.{Best}
-use Rattle.heads.specs.View.{Cols, cols}
+use Rattle.heads.specs.View.{Cols, cols, foursOf}
 use Rattle.heads.specs.Move.{bestRecord, takenOf, behindBy}
 use Rattle.heads.proofs.MoveLaws.{Chosen, chosen, stays-none, stays-untaken}
 use borrow.Author.Needs.{needs}
@@ -30,15 +31,22 @@ sc c = cols (now (c .args .chrom)) (now (c .args .start)) (now (c .args .stop))
 abbrev after : tie.Start → ℕ → List Record
 after c = behindBy (sc c) (now (c .args .next)) (now (c .args .from)) (now (c .args .to))
 
+-- the heads as fours, and which streams have ended
+abbrev fours : tie.Start → List (List ℕ)
+fours c = foursOf (now (c .args .hchrom)) (now (c .args .hstart)) (now (c .args .hstop)) (now (c .args .hrow))
+
+abbrev marks : tie.Start → List Bool
+marks c = now (c .args .ended)
+
 -- the head that is chosen
 abbrev Choice : tie.Start → Best → Type 0
-Choice c h = Chosen (c .args .q) (c .args .ended) (after c) (c .args .streams) (c .pre .few) h
+Choice c h = Chosen (fours (c)) (marks (c)) (after c) (c .args .streams) (c .pre .few) h
 
 choice : (c : tie.Else1) → Choice (c .before .before .before .before .before .before .before) (c .before .before .before .least-of .result)
 choice c =
     let a = c .before .before .before .before .before .before .before in
     let l = c .before .before .before .least-of in
-    chosen (a .args .q) (a .args .ended) (after a) (a .args .streams) (a .pre .few) (l .result) (l .ensures) (c .if1 .left)
+    chosen (fours (a)) (marks (a)) (after a) (a .args .streams) (a .pre .few) (l .result) (l .ensures) (c .if1 .left)
 
 -- its place is one of the streams'
 inside : (c : tie.After-place-in) → c .place-in .result < c .before .before .before .before .before .before .before .before .before .before .before .args .streams
@@ -53,7 +61,7 @@ least-of-requires c κs = search needs
 
 -- src/lib.rt:368:9
 returns : tie.Need-returns
-returns c = sym (stays-none (c .before .before .before .before .before .before .before .args .q) (c .before .before .before .before .before .before .before .args .ended) (after (c .before .before .before .before .before .before .before)) (c .before .before .before .before .before .before .before .args .streams) ((c .before .before .before .before .before .before .before) .pre .few) (c .before .before .before .before .before .before .before .args .n) (c .before .before .before .before .before .before .before .args .b) (now (c .before .before .before .before .before .before .before .args .next)) (c .before .before .before .least-of .result) (c .before .before .before .least-of .ensures) (c .if1 .taken))
+returns c = sym (stays-none (fours (c .before .before .before .before .before .before .before)) (marks (c .before .before .before .before .before .before .before)) (after (c .before .before .before .before .before .before .before)) (c .before .before .before .before .before .before .before .args .streams) ((c .before .before .before .before .before .before .before) .pre .few) (c .before .before .before .before .before .before .before .args .n) (c .before .before .before .before .before .before .before .args .b) (now (c .before .before .before .before .before .before .before .args .next)) (c .before .before .before .least-of .result) (c .before .before .before .least-of .ensures) (c .if1 .taken))
 
 -- src/lib.rt:370:9
 is-taken-requires : tie.Need-is-taken-requires
@@ -61,7 +69,7 @@ is-taken-requires c κs = search needs
 
 -- src/lib.rt:371:9
 returns-2 : tie.Need-returns-2
-returns-2 c = sym (stays-untaken (c .before .before .before .before .before .before .before .before .before .args .q) (c .before .before .before .before .before .before .before .before .before .args .ended) (after (c .before .before .before .before .before .before .before .before .before)) (c .before .before .before .before .before .before .before .before .before .args .streams) ((c .before .before .before .before .before .before .before .before .before) .pre .few) (c .before .before .before .before .before .before .before .before .before .args .n) (c .before .before .before .before .before .before .before .before .before .args .b) (now (c .before .before .before .before .before .before .before .before .before .args .next)) (c .before .before .before .before .before .least-of .result) (choice (c .before .before)) (sym (c .before .is-taken .ensures) ∙ not-true _ (c .if2 .taken)))
+returns-2 c = sym (stays-untaken (fours (c .before .before .before .before .before .before .before .before .before)) (marks (c .before .before .before .before .before .before .before .before .before)) (after (c .before .before .before .before .before .before .before .before .before)) (c .before .before .before .before .before .before .before .before .before .args .streams) ((c .before .before .before .before .before .before .before .before .before) .pre .few) (c .before .before .before .before .before .before .before .before .before .args .n) (c .before .before .before .before .before .before .before .before .before .args .b) (now (c .before .before .before .before .before .before .before .before .before .args .next)) (c .before .before .before .before .before .least-of .result) (choice (c .before .before)) (sym (c .before .is-taken .ensures) ∙ not-true _ (c .if2 .taken)))
 
 -- src/lib.rt:375:15
 is-live-requires : tie.Need-is-live-requires
@@ -89,7 +97,7 @@ element-copy-out-if3 c = below (c .before)
 
 -- src/lib.rt:383:9
 returns-3 : tie.Need-returns-3
-returns-3 c = decided-ends (c .before .before .before .before .before .before .before .before .before .before .before .before .before .before .args .q) (c .before .before .before .before .before .before .before .before .before .before .before .before .before .before .args .ended) (sc (c .before .before .before .before .before .before .before .before .before .before .before .before .before .before)) (now (c .before .before .before .before .before .before .before .before .before .before .before .before .before .before .args .next)) (now (c .before .before .before .before .before .before .before .before .before .before .before .before .before .before .args .from)) (now (c .before .before .before .before .before .before .before .before .before .before .before .before .before .before .args .to)) (c .before .before .before .before .before .before .before .before .before .before .before .before .before .before .args .streams) ((c .before .before .before .before .before .before .before .before .before .before .before .before .before .before) .pre .few) (c .before .before .before .before .before .before .before .before .before .before .before .before .before .before .args .n) (c .before .before .before .before .before .before .before .before .before .before .before .before .before .before .args .b) (c .before .before .before .before .before .before .before .before .before .before .least-of .result) (choice (c .before .before .before .before .before .before .before)) (c .before .before .before .before .is-live .result) (c .before .before .before .before .is-live .ensures) (sym (c .before .before .before .before .before .before .is-taken .ensures) ∙ not-false _ (c .before .before .before .before .before .if2 .left)) (c .before .before .before .place-in .result) (c .before .before .before .place-in .ensures) (c .if3 .taken)
+returns-3 c = decided-ends (fours (c .before .before .before .before .before .before .before .before .before .before .before .before .before .before)) (marks (c .before .before .before .before .before .before .before .before .before .before .before .before .before .before)) (sc (c .before .before .before .before .before .before .before .before .before .before .before .before .before .before)) (now (c .before .before .before .before .before .before .before .before .before .before .before .before .before .before .args .next)) (now (c .before .before .before .before .before .before .before .before .before .before .before .before .before .before .args .from)) (now (c .before .before .before .before .before .before .before .before .before .before .before .before .before .before .args .to)) (c .before .before .before .before .before .before .before .before .before .before .before .before .before .before .args .streams) ((c .before .before .before .before .before .before .before .before .before .before .before .before .before .before) .pre .few) (c .before .before .before .before .before .before .before .before .before .before .before .before .before .before .args .n) (c .before .before .before .before .before .before .before .before .before .before .before .before .before .before .args .b) (c .before .before .before .before .before .before .before .before .before .before .least-of .result) (choice (c .before .before .before .before .before .before .before)) (c .before .before .before .before .is-live .result) (c .before .before .before .before .is-live .ensures) (sym (c .before .before .before .before .before .before .is-taken .ensures) ∙ not-false _ (c .before .before .before .before .before .if2 .left)) (c .before .before .before .place-in .result) (c .before .before .before .place-in .ensures) (c .if3 .taken)
 
 -- src/lib.rt:385:17
 mul-first : tie.Need-mul-first
@@ -105,7 +113,7 @@ follow-requires c κs = let p = (c .before .before .before .before .before .befo
 
 -- src/lib.rt:349:1
 returns-4 : tie.Need-returns-4
-returns-4 c = decided-follows (c .before .before .before .before .before .before .before .before .before .before .before .before .before .before .before .before .args .q) (c .before .before .before .before .before .before .before .before .before .before .before .before .before .before .before .before .args .ended) (sc (c .before .before .before .before .before .before .before .before .before .before .before .before .before .before .before .before)) (now (c .before .before .before .before .before .before .before .before .before .before .before .before .before .before .before .before .args .next)) (now (c .before .before .before .before .before .before .before .before .before .before .before .before .before .before .before .before .args .from)) (now (c .before .before .before .before .before .before .before .before .before .before .before .before .before .before .before .before .args .to)) (c .before .before .before .before .before .before .before .before .before .before .before .before .before .before .before .before .args .streams) ((c .before .before .before .before .before .before .before .before .before .before .before .before .before .before .before .before) .pre .few) (c .before .before .before .before .before .before .before .before .before .before .before .before .before .before .before .before .args .n) (c .before .before .before .before .before .before .before .before .before .before .before .before .before .before .before .before .args .b) (c .before .before .before .before .before .before .before .before .before .before .before .before .least-of .result) (choice (c .before .before .before .before .before .before .before .before .before)) (c .before .before .before .before .before .before .is-live .result) (c .before .before .before .before .before .before .is-live .ensures) (sym (c .before .before .before .before .before .before .before .before .is-taken .ensures) ∙ not-false _ (c .before .before .before .before .before .before .before .if2 .left)) (c .before .before .before .before .before .place-in .result) (c .before .before .before .before .before .place-in .ensures) (c .follow .result) (c .before .before .if3 .left) (c .follow .ensures)
+returns-4 c = decided-follows (fours (c .before .before .before .before .before .before .before .before .before .before .before .before .before .before .before .before)) (marks (c .before .before .before .before .before .before .before .before .before .before .before .before .before .before .before .before)) (sc (c .before .before .before .before .before .before .before .before .before .before .before .before .before .before .before .before)) (now (c .before .before .before .before .before .before .before .before .before .before .before .before .before .before .before .before .args .next)) (now (c .before .before .before .before .before .before .before .before .before .before .before .before .before .before .before .before .args .from)) (now (c .before .before .before .before .before .before .before .before .before .before .before .before .before .before .before .before .args .to)) (c .before .before .before .before .before .before .before .before .before .before .before .before .before .before .before .before .args .streams) ((c .before .before .before .before .before .before .before .before .before .before .before .before .before .before .before .before) .pre .few) (c .before .before .before .before .before .before .before .before .before .before .before .before .before .before .before .before .args .n) (c .before .before .before .before .before .before .before .before .before .before .before .before .before .before .before .before .args .b) (c .before .before .before .before .before .before .before .before .before .before .before .before .least-of .result) (choice (c .before .before .before .before .before .before .before .before .before)) (c .before .before .before .before .before .before .is-live .result) (c .before .before .before .before .before .before .is-live .ensures) (sym (c .before .before .before .before .before .before .before .before .is-taken .ensures) ∙ not-false _ (c .before .before .before .before .before .before .before .if2 .left)) (c .before .before .before .before .before .place-in .result) (c .before .before .before .before .before .place-in .ensures) (c .follow .result) (c .before .before .if3 .left) (c .follow .ensures)
 
 pub decide-spec : {M : Type 1} → statement M
 decide-spec =
