@@ -181,7 +181,7 @@ fn follows(stage: Stage, b: Base) -> bool
 }
 
 // 4, 6, 3, 5, in this order.
-fn judge(lengths: &[u64], stage: Stage, b: Base) -> Gate
+pub fn judge(lengths: &[u64], stage: Stage, b: Base) -> Gate
     ensures { λ r. ⌜ r ≡ judgedOf (judge (lengthsOf (now (lengths .entry))) (lastOf stage) b) ⌝ }
 {
     let c = b.chrom;

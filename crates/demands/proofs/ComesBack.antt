@@ -35,7 +35,8 @@ use Rattle.sweep.specs.declared.Given.{Given}
 use Rattle.sweep.specs.declared.start.Begins.{Begins}
 use Rattle.sweep.specs.declared.start.Begins.the-variants.{Begun}
 use Rattle.sweep.specs.View.{headsOf, runWith, leftBy, runOf, overOf}
-use Rattle.sweep.specs.Settle.{drawnTo, endedBy, runBy, Going, Found, Lent, lent}
+use Rattle.pulls.specs.Pulls.{drawnTo, Found, Lent, lent}
+use Rattle.sweep.specs.Settle.{endedBy, runBy, Going}
 use Rattle.sweep.specs.Give.{rightOf, givenOf, openedBy, Gives}
 use Rattle.sweep.specs.Start.{Plan, runFrom, startOf, Lends}
 use Rattle.sweep.proofs.ViewLaws.{eight-at}

@@ -15,7 +15,8 @@ use Rattle.queue.specs.Ring.{waiting}
 use Rattle.sweep.specs.declared.Run.{Run}
 use Rattle.sweep.specs.declared.Given.{Given}
 use Rattle.sweep.specs.View.{headsOf, runWith, runOf}
-use Rattle.sweep.specs.Settle.{drawnTo, runBy, Found, Lent}
+use Rattle.pulls.specs.Pulls.{drawnTo, Found, Lent}
+use Rattle.sweep.specs.Settle.{runBy}
 use Rattle.sweep.specs.Give.{givenOf, openedBy, Gives}
 
 -- two results of one call, g and k, with what was lent after them

@@ -14,7 +14,7 @@ use Rattle.heads.specs.Move.{moved}
 use Rattle.heads.proofs.RestLaws.{moved-placed, moved-shaped}
 use Rattle.heads.proofs.TurnLaws.{Turning}
 use Rattle.heads.proofs.LoadLaws.{upto}
-use Rattle.sweep.specs.Settle.{turnOf, afterTurns, drawnTo}
+use Rattle.pulls.specs.Pulls.{turnOf, afterTurns, drawnTo}
 use Rattle.sweep.specs.Give.{openedBy}
 
 -- the heads g are in place, and of the streams of h

@@ -26,7 +26,8 @@ use Rattle.sweep.specs.declared.Given.{Given}
 use Rattle.sweep.specs.declared.start.Begins.{Begins}
 use Rattle.sweep.specs.declared.start.Begins.the-variants.{Begun}
 use Rattle.sweep.specs.View.{headsOf, runOf}
-use Rattle.sweep.specs.Settle.{drawnTo, runBy, Lent, lent}
+use Rattle.pulls.specs.Pulls.{drawnTo, Lent, lent}
+use Rattle.sweep.specs.Settle.{runBy}
 use Rattle.sweep.specs.Give.{lensOf, rightOf, givenOf, openedBy, Gives}
 use Rattle.sweep.specs.Start.{Plan, streamsOf, runFrom, startOf}
 use Rattle.sweep.proofs.StartLaws.{begun-fresh}

@@ -15,7 +15,7 @@ use Rattle.admit.specs.Gates.{lengthsOf}
 use Rattle.sweep.specs.declared.Run.{Run}
 use Rattle.sweep.specs.declared.Given.{Given}
 use Rattle.sweep.specs.declared.start.Begins.the-variants.{Begun}
-use Rattle.sweep.specs.Settle.{Lent, lent}
+use Rattle.pulls.specs.Pulls.{Lent, lent}
 use Rattle.sweep.specs.Give.{rightOf, givenOf, Gives}
 use Rattle.sweep.specs.Start.{Plan, streamsOf, startOf}
 

@@ -13,9 +13,11 @@ use Rattle.heads.specs.View.{Cols}
 use Rattle.sweep.specs.declared.Run.{Run}
 use Rattle.sweep.specs.declared.Given.{Given}
 use Rattle.sweep.specs.declared.start.Started.{Started}
-use Rattle.sweep.specs.Settle.{Lent}
+use Rattle.pulls.specs.Pulls.{Lent}
 use Rattle.sweep.specs.Start.{plan, startOf}
 use Rattle.sweep.specs.Give.{Gives}
+use Rattle.many.specs.declared.Passed.{Passed}
+use Rattle.many.specs.Many.{GivesAll}
 use Rattle.text.specs.declared.Reading.{Reading}
 use Rattle.text.specs.Table.{Found, Fills}
 use Rattle.inplace.specs.declared.held.Held.{Held}
@@ -23,7 +25,7 @@ use Rattle.inplace.specs.declared.told.Told.{Told}
 use Rattle.inplace.specs.declared.readers.Tally.{Tally}
 use Rattle.inplace.specs.Held.{stageOf, markOf, runOf, heldOf}
 use Rattle.inplace.specs.Told.{toldOf}
-use Rattle.inplace.specs.Calls.{eightOf, streamsIn, planOf, begunNumber, BeginsInPlace, GivesInPlace}
+use Rattle.inplace.specs.Calls.{eightOf, streamsIn, planOf, begunNumber, BeginsInPlace, GivesInPlace, GivesAllHeld}
 use Rattle.inplace.specs.Tally.{tallyOf, Tallies}
 
 stage-back : (t : Stage) → stageOf (markOf t) ≡ t
@@ -50,6 +52,19 @@ gives-so {s} {lengths} {h} {b} {l} {l′} {r} {g} {t} {h′} er e eh et =
     record {
       told = et ∙ ap toldOf (f .settles .answer);
       gives = subst (λ (u : Given). Gives s lengths (runOf h) b l u l′) (same-given g back (f .settles .answer)) f;
+      held = eh ∙ ap heldOf (sym back);
+    }
+
+-- bases given to the run that goes in, what the last one got told, and the run kept again
+pub gives-all-so : {s : Cols} {lengths : List ℕ} {t : Cols} {h : Held} {l l′ : Lent} {ns ns′ : List ℕ} {r : Run} {p : Passed} {x : Told} {h′ : Held}
+    → r ≡ runOf h → GivesAll s lengths t r l ns p l′ ns′ → h′ ≡ heldOf (p .run) → x ≡ toldOf (p .last) → GivesAllHeld s lengths t h l ns (record { run = h′; bases = p .bases; records = p .records; last = x }) l′ ns′
+gives-all-so {s} {lengths} {t} {h} {l} {l′} {ns} {ns′} {r} {p} {x} {h′} er e eh ex =
+    let back : runOf h′ ≡ p .run = ap runOf eh ∙ run-back (p .run) in
+    let f : GivesAll s lengths t (runOf h) l ns p l′ ns′ = subst (λ (u : Run). GivesAll s lengths t u l ns p l′ ns′) er e in
+    record {
+      answer = p .last;
+      told = ex;
+      gives = subst (λ (u : Run). GivesAll s lengths t (runOf h) l ns (record { run = u; bases = p .bases; records = p .records; last = p .last }) l′ ns′) (sym back) f;
       held = eh ∙ ap heldOf (sym back);
     }
 

@@ -29,7 +29,8 @@ use Rattle.sweep.specs.declared.Run.{Run}
 use Rattle.sweep.specs.declared.start.Begins.the-variants as begins
 use Rattle.sweep.specs.View.{headsOf, eight}
 use Rattle.sweep.specs.View as sweep
-use Rattle.sweep.specs.Settle.{Lent, drawnTo, runBy}
+use Rattle.pulls.specs.Pulls.{Lent, drawnTo}
+use Rattle.sweep.specs.Settle.{runBy}
 use Rattle.sweep.specs.Start.{Plan, namesOf, lendable, refusedOf, begunBy, startOf}
 use Rattle.sweep.specs.Give.{lensOf, rightOf, givenOf, openedBy}
 use Rattle.inplace.specs.declared.held.Held.{Held}

@@ -12,10 +12,12 @@ use Rattle.rules.specs.Call.{answerOf}
 use Rattle.heads.specs.View.{Cols}
 use Rattle.sweep.specs.declared.start.Begins.{Begins}
 use Rattle.sweep.specs.declared.start.Begins.the-variants.{Begun, Refused}
-use Rattle.sweep.specs.Settle.{Lent}
+use Rattle.pulls.specs.Pulls.{Lent}
 use Rattle.sweep.specs.Start.{Plan, plan, startOf}
 use Rattle.sweep.specs.Give.{Gives, givenOf}
+use Rattle.many.specs.Many.{GivesAll}
 use Rattle.inplace.specs.declared.held.Held.{Held}
+use Rattle.inplace.specs.declared.Swept.{Swept}
 use Rattle.inplace.specs.declared.told.Told.{Told}
 use Rattle.inplace.specs.Held.{runOf, heldOf}
 use Rattle.inplace.specs.Told.{toldOf}
@@ -59,3 +61,13 @@ pub record GivesInPlace (s : Cols) (lengths : List ℕ) (h : Held) (b : Base) (l
   pub gives : Gives s lengths (runOf h) b l (record { run = runOf h′; answer = answered s lengths h b l }) l′
   -- what is kept is fixed by the run that it stands for
   pub held : h′ ≡ heldOf (runOf h′)
+
+-- ---- bases are given one after the other
+
+-- as `many::give_all` says of the run that goes in and comes out
+pub record GivesAllHeld (s : Cols) (lengths : List ℕ) (t : Cols) (h : Held) (l : Lent) (ns : List ℕ) (a : Swept) (l′ : Lent) (ns′ : List ℕ) : Type 0 where
+  pub answer : Answer
+  pub told : a .last ≡ toldOf answer
+  pub gives : GivesAll s lengths t (runOf h) l ns (record { run = runOf (a .run); bases = a .bases; records = a .records; last = answer }) l′ ns′
+  -- what is kept is fixed by the run that it stands for
+  pub held : a .run ≡ heldOf (runOf (a .run))

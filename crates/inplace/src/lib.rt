@@ -16,8 +16,18 @@ ghost use mathlib.Core.Path.{_≡_};
 ghost use lib.ListN.{getD};
 ghost use Rattle.heads.specs.View.{cols};
 ghost use Rattle.queue.specs.Ring.{cells};
-ghost use Rattle.sweep.specs.Settle.{lent};
-ghost use Rattle.inplace.specs.Calls.{eightOf, streamsIn, planOf, begunNumber, baseOf, BeginsInPlace, GivesInPlace};
+ghost use Rattle.pulls.specs.Pulls.{lent};
+ghost use Rattle.inplace.specs.Calls.{eightOf, streamsIn, planOf, begunNumber, baseOf, BeginsInPlace, GivesInPlace, GivesAllHeld};
+
+// What bases came to that were given one after the other: the run after them, how many were answered, how many records these have together,
+// and what the next one got, where it was given and got no records; else that is all 0.
+#[repr(C)]
+pub struct Swept {
+    pub run: Held,
+    pub bases: usize,
+    pub records: usize,
+    pub last: Told,
+}
 
 // A run that was begun, and the refusal's number or 0.
 struct Begun {
@@ -243,4 +253,59 @@ pub extern "C" fn cedarlash_give(
     );
     *run = s.held;
     s.told
+}
+
+// Gives the bases of three columns to a run, one after the other, each as `cedarlash_give` would, until one gets no records, or fewer answer
+// rows are left than records can wait: many bases for the price of one call. The run goes in and comes out by value. The records of each base stand
+// in the answer columns behind those of the bases ahead of it, and its count stands in its place of `counts`.
+#[no_mangle]
+pub extern "C" fn cedarlash_give_all(
+    run: Held,
+    bchrom: &[u64],
+    bstart: &[u64],
+    bstop: &[u64],
+    chrom: &[u64],
+    start: &[u64],
+    stop: &[u64],
+    lengths: &[u64],
+    qstream: &mut [u64],
+    qrow: &mut [u64],
+    qstart: &mut [u64],
+    qstop: &mut [u64],
+    streams: &mut [u64],
+    rows: &mut [u64],
+    counts: &mut [usize],
+) -> Swept
+    ensures { λ a. ⌜ GivesAllHeld (cols (now (chrom .entry)) (now (start .entry)) (now (stop .entry))) (now (lengths .entry)) (cols (now (bchrom .entry)) (now (bstart .entry)) (now (bstop .entry))) run
+        (lent (cells (now (qstream .entry)) (now (qrow .entry)) (now (qstart .entry)) (now (qstop .entry))) (now (streams .entry)) (now (rows .entry))) (now (counts .entry)) a
+        (lent (cells (now (qstream .exit)) (now (qrow .exit)) (now (qstart .exit)) (now (qstop .exit))) (now (streams .exit)) (now (rows .exit))) (now (counts .exit)) ⌝ }
+{
+    let r = held::run_of(run);
+    let p = many::give_all(
+        r,
+        bchrom,
+        bstart,
+        bstop,
+        chrom,
+        start,
+        stop,
+        lengths,
+        qstream,
+        qrow,
+        qstart,
+        qstop,
+        streams,
+        rows,
+        counts,
+    );
+    let after = p.run;
+    let answer = p.last;
+    let kept = held::held_of(after);
+    let told = told::told_of(answer);
+    Swept {
+        run: kept,
+        bases: p.bases,
+        records: p.records,
+        last: told,
+    }
 }

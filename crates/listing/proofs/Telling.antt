@@ -26,7 +26,7 @@ use Rattle.lines.proofs.LaidLaws.{lays-none, lays-append, lays-part}
 use Rattle.sweep.specs.declared.Run.{Run}
 use Rattle.sweep.specs.declared.Given.{Given}
 use Rattle.sweep.specs.View.{runOf}
-use Rattle.sweep.specs.Settle.{Lent, lent}
+use Rattle.pulls.specs.Pulls.{Lent, lent}
 use Rattle.sweep.specs.Give.{rightOf, givenOf, Gives}
 use Rattle.replies.specs.declared.Listed.{Listed}
 use Rattle.replies.specs.Lines.{linesOf}

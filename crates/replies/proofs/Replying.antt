@@ -18,7 +18,7 @@ use Rattle.lines.specs.Laid.{Lays}
 use Rattle.lines.proofs.LaidLaws.{lays-alike}
 use Rattle.sweep.specs.declared.Run.{Run}
 use Rattle.sweep.specs.declared.Given.{Given}
-use Rattle.sweep.specs.Settle.{Lent}
+use Rattle.pulls.specs.Pulls.{Lent}
 use Rattle.sweep.specs.Give.{Gives, givenOf}
 use Rattle.replies.specs.declared.Listed.{Listed}
 use Rattle.replies.specs.Lines.{rowLine, linesOf}

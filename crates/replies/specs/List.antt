@@ -5,7 +5,7 @@ use Rattle.rules.specs.declared.Base.{Base}
 use Rattle.heads.specs.View.{Cols}
 use Rattle.lines.specs.Laid.{Lays}
 use Rattle.sweep.specs.declared.Run.{Run}
-use Rattle.sweep.specs.Settle.{Lent}
+use Rattle.pulls.specs.Pulls.{Lent}
 use Rattle.sweep.specs.Give.{Gives, givenOf}
 use Rattle.replies.specs.declared.Listed.{Listed}
 use Rattle.replies.specs.Lines.{linesOf}

@@ -16,7 +16,7 @@ ghost use Rattle.queue.specs.Ring.{cells};
 ghost use Rattle.lines.specs.Lines.{lineE};
 ghost use Rattle.lines.specs.Put.{Puts};
 ghost use Rattle.lines.specs.Laid.{Lays};
-ghost use Rattle.sweep.specs.Settle.{lent};
+ghost use Rattle.pulls.specs.Pulls.{lent};
 ghost use Rattle.replies.specs.Lines.{rowLine};
 ghost use Rattle.replies.specs.List.{Lists};
 ghost use Rattle.replies.specs.Source.{source, rowLines, foundLines, answerLines, Holds, Backs};

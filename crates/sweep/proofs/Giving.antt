@@ -19,13 +19,14 @@ use Rattle.rules.specs.declared.Refusal.the-variants.{Sizes}
 use Rattle.rules.specs.declared.Stage.{Stage}
 use Rattle.rules.specs.declared.Stage.the-variants.{Fresh, After, Over}
 use Rattle.rules.specs.declared.Answer.the-variants as answer
+use Rattle.rules.specs.declared.Offer.{Offer}
 use Rattle.rules.specs.Rows.{Record}
 use Rattle.rules.specs.Streams.{ahead, next}
 use Rattle.rules.specs.Overlap.{taken, live, overlaps}
 use Rattle.rules.specs.Offer.{offer}
 use Rattle.rules.specs.Pull.{Pull, paused, ends, pull}
 use Rattle.rules.specs.Bases.{judge}
-use Rattle.rules.specs.Call.{Reply, found, refused, ended, refuse, end, loading, coming, afterPull, pulling, accept, judged, byStage, give}
+use Rattle.rules.specs.Call.{Reply, found, refused, ended, answerOf, refuse, over, end, loading, coming, afterPull, pulling, accept, judged, byStage, give}
 use Rattle.rules.specs.Call as rules
 use Rattle.heads.specs.declared.Heads.{Heads}
 use Rattle.heads.specs.declared.Check.{Check}
@@ -48,11 +49,12 @@ use Rattle.admit.proofs.GateLaws.{gate-open, gate-refuses}
 use Rattle.sweep.specs.declared.Run.{Run}
 use Rattle.sweep.specs.declared.Given.{Given}
 use Rattle.sweep.specs.declared.Opened.{Opened}
+use Rattle.pulls.specs.declared.Answered.{Answered}
 use Rattle.sweep.specs.View.{headsOf, runWith, leftBy, runOf, heldOf, overOf}
-use Rattle.sweep.specs.Settle.{drawnTo, endedBy, runBy, Going, Kept, Lent, lent, Settles, Drawable, DrawsAs}
+use Rattle.pulls.specs.Pulls.{drawnTo, Found, Kept, Lent, lent, standsAt, FoundIn, SettlesIn, Settleable, SettlesAs}
+use Rattle.sweep.specs.Settle.{endedBy, runBy, Going, Settles}
 use Rattle.sweep.specs.Give.{lensOf, rightOf, givenOf, openedBy, Gives, Answerable, AnswersAs, OpensAs, OpenedBy, OpenedAs}
-use Rattle.sweep.proofs.ViewLaws.{over-view}
-use Rattle.sweep.proofs.Drawing.{kept-trans, fair-kept, ended-going}
+use Rattle.sweep.proofs.ViewLaws.{over-view, over-held}
 
 -- ---- how a base stands
 
@@ -97,33 +99,11 @@ fresh-going r i = subst Going (sym i) tt
 pub under-going : (r : Run) → Underway r → Going (r .stage)
 under-going r w = subst Going (sym (w .is)) tt
 
--- ---- clearing, and then a pull
-
-module _ (s : Cols) (r : Run) (b : Base) (l : Lent) (a : Answerable s r l) (q : Ring) (c : Cells) (k : Clears (r .ring) (l .cells) b q c) where
-  pub drawable : Drawable s r b q (lent c (l .streams) (l .rows))
-  drawable = record {
-    going = a .going;
-    placed = a .placed;
-    fair = k .fair;
-    chrom = k .chrom;
-    cleared = cleared-live b k;
-    room = k .room;
-    streams = omega (arith, a .streams, k .room);
-    rows = omega (arith, a .rows, k .room);
-  }
-
-  -- what waits is what was live
-  pulls-so : afterPull (length (l .rows)) (heldOf s c r) b (pull ahead (next (r .chroms)) NoRoom (taken b) (live b) (q .room) (restsOf s (headsOf r)) (waiting q c)) ≡ pulling (r .chroms) (r .ring .room) (length (l .rows)) (heldOf s (l .cells) r) b
-  pulls-so = rw (k .left, k .room) (go (pull ahead (next (r .chroms)) NoRoom (taken b) (live b) (r .ring .room) (restsOf s (headsOf r)) (filter (live b) (waiting (r .ring) (l .cells)))))
-    where
-      go : (p : Pull Record End) → afterPull (length (l .rows)) (heldOf s c r) b p ≡ afterPull (length (l .rows)) (heldOf s (l .cells) r) b p
-      go (ends e) = refl
-      go (paused ss w) = refl
-
-  pub answers-so : (g : Given) (l′ : Lent) → DrawsAs s r b q (lent c (l .streams) (l .rows)) g l′ → AnswersAs s r b l g l′
-  answers-so g l′ d =
-      let z : Settles s b (drawnTo s (r .chroms) b (headsOf r)) r (pulling (r .chroms) (r .ring .room) (length (l .rows)) (heldOf s (l .cells) r) b) (lent c (l .streams) (l .rows)) g l′ = rw pulls-so at d in
-      record { answer = z .answer; run = z .run; exact = z .exact; room = z .room; fair = z .fair; kept = kept-trans (fair-kept (a .fair) (k .fair) (k .room)) (z .kept); streams = z .streams; rows = z .rows }
+-- a run that goes on is ended
+pub ended-going : (t : Stage) (r : Run) (e : End) → Going t → endedBy t r e ≡ overOf r e
+ended-going Fresh r e g = refl
+ended-going (After p) r e g = refl
+ended-going (Over x) r e g = absurd g
 
 -- ---- what a pull answers
 
@@ -155,6 +135,92 @@ loads-wrong (some f) to same h w k e i = let z : check.Wrong e ≡ check.Wrong f
 loads-fine : (o : Option End) (to same h : Heads) (w : Check) → _≡_ {A = Loaded} (record { heads = h; wrong = w }) (unlessWrongIn o to same) → w ≡ check.Fine → (o ≡ none) × (h ≡ to)
 loads-fine none to same h w k i = (refl, ap (λ (x : Loaded). x .heads) k)
 loads-fine (some f) to same h w k i = let z : check.Fine ≡ check.Wrong f = sym i ∙ ap (λ (x : Loaded). x .wrong) k in let y : _≡_ {A = ℕ} 0 1 = cc in absurd (omega arith)
+
+-- ---- what an accepted base gets, told of the run
+
+-- an answer tells the reply
+reply-ended : (y : Reply) (e : End) → answerOf y ≡ answer.Ended e → y ≡ ended e
+reply-ended (found hits o) e i = let z : _≡_ {A = ℕ} 0 1 = cc in absurd (omega arith)
+reply-ended (refused x) e i = let z : _≡_ {A = ℕ} 0 1 = cc in absurd (omega arith)
+reply-ended (ended f) e i = let z : f ≡ e = cc in ap ended z
+
+reply-found : (y : Reply) (m : ℕ) (o : Offer) → answerOf y ≡ answer.Found m o → Found y
+reply-found (found hits p) m o i = tt
+reply-found (refused x) m o i = let z : _≡_ {A = ℕ} 0 1 = cc in absurd (omega arith)
+reply-found (ended f) m o i = let z : _≡_ {A = ℕ} 0 1 = cc in absurd (omega arith)
+
+reply-refused : (y : Reply) (x : Refusal) → answerOf y ≡ answer.Refused x → y ≡ refused x
+reply-refused (found hits p) x i = let z : _≡_ {A = ℕ} 0 1 = cc in absurd (omega arith)
+reply-refused (refused w) x i = let z : w ≡ x = cc in ap refused z
+reply-refused (ended f) x i = let z : _≡_ {A = ℕ} 0 1 = cc in absurd (omega arith)
+
+-- the run after an end
+over-run : (rows : ℕ) (r : rules.Run) (b : Base) (p : Pull Record End) (e : End) → afterPull rows r b p .reply ≡ ended e → afterPull rows r b p .run ≡ over r e
+over-run rows r b (ends f) e i = let z : f ≡ e = cc in ap (over r) z
+over-run rows r b (paused ss w) e i = go (ltb rows (length (filter (overlaps b) w))) i
+  where
+    at : Bool → rules.Given
+    at t = cond t (end r NoRows) (record { run = record { left = ss; queue = w; stage = After b }; reply = found (filter (overlaps b) w) (offer (coming ss w) b) })
+
+    go : (t : Bool) → at t .reply ≡ ended e → at t .run ≡ over r e
+    go true j = let z : NoRows ≡ e = cc in ap (over r) z
+    go false j = let z : _≡_ {A = ℕ} 0 1 = cc in absurd (omega arith)
+
+found-run : (y : Reply) (b : Base) (h : Heads) (r : Run) (q : Ring) → Found y → runBy y b h r q ≡ runWith r h q (After b)
+found-run (found hits o) b h r q f = refl
+found-run (refused x) b h r q f = absurd f
+found-run (ended e) b h r q f = absurd f
+
+pub settleable : (s : Cols) (r : Run) (l : Lent) → Answerable s r l → Shaped (headsOf r) → Settleable s (headsOf r) (r .ring) l
+settleable s r l z w = record { shaped = w; placed = z .placed; fair = z .fair; streams = z .streams; rows = z .rows }
+
+module _ (s : Cols) (r : Run) (b : Base) (l : Lent) (z : Answerable s r l) (a : Answered) (h′ : Heads) (l′ : Lent) (n : ℕ) (ns : n ≡ r .chroms) (k : SettlesAs s n (headsOf r) b (r .ring) l a h′ l′) where
+  abbrev T : rules.Given
+  T = pulling (r .chroms) (r .ring .room) (length (l .rows)) (heldOf s (l .cells) r) b
+
+  -- how the run stands is not looked at
+  same-pull : pulling (r .chroms) (r .ring .room) (length (l .rows)) (standsAt s (headsOf r) (r .ring) (l .cells) b) b ≡ T
+  same-pull = go (pull ahead (next (r .chroms)) NoRoom (taken b) (live b) (r .ring .room) (restsOf s (headsOf r)) (filter (live b) (waiting (r .ring) (l .cells))))
+    where
+      go : (p : Pull Record End) → afterPull (length (l .rows)) (standsAt s (headsOf r) (r .ring) (l .cells) b) b p ≡ afterPull (length (l .rows)) (heldOf s (l .cells) r) b p
+      go (ends e) = refl
+      go (paused ss v) = refl
+
+  settled-in : SettlesIn s (r .chroms) b (headsOf r) (r .ring .room) T l a h′ l′
+  settled-in = subst (λ (t : rules.Given). SettlesIn s (r .chroms) b (headsOf r) (r .ring .room) t l a h′ l′) same-pull (subst (λ (m : ℕ). SettlesAs s m (headsOf r) b (r .ring) l a h′ l′) ns k)
+
+  pub ends-as : (e : End) → a .answer ≡ answer.Ended e → (g : Given) → g ≡ record { run = overOf r e; answer = answer.Ended e } → AnswersAs s r b l g l′
+  ends-as e i g gs =
+      let is : T .reply ≡ ended e = reply-ended (T .reply) e (sym (settled-in .answer) ∙ i) in
+      subst (λ (x : Given). AnswersAs s r b l x l′) (sym gs) (record {
+        answer = sym i ∙ settled-in .answer;
+        run = over-held s (l .cells) (l′ .cells) r e (z .placed .few) ∙ sym (over-run (length (l .rows)) (heldOf s (l .cells) r) b (pull ahead (next (r .chroms)) NoRoom (taken b) (live b) (r .ring .room) (restsOf s (headsOf r)) (filter (live b) (waiting (r .ring) (l .cells)))) e is);
+        exact = sym (ended-going (r .stage) r e (z .going)) ∙ ap (λ (y : Reply). runBy y b (drawnTo s (r .chroms) b (headsOf r)) r (overOf r e .ring)) (sym is);
+        room = refl;
+        fair = λ y. absurd (subst Found is y);
+        kept = settled-in .kept;
+        streams = settled-in .streams;
+        rows = settled-in .rows;
+      })
+
+  pub found-as : (m : ℕ) (o : Offer) → a .answer ≡ answer.Found m o → (u : Run) → u ≡ runWith r h′ (a .ring) (After b) → AnswersAs s r b l (record { run = u; answer = answer.Found m o }) l′
+  found-as m o i u us =
+      let f : Found (T .reply) = reply-found (T .reply) m o (sym (settled-in .answer) ∙ i) in
+      let g : FoundIn s (r .chroms) b (headsOf r) (r .ring .room) T (a .ring) h′ (l′ .cells) = settled-in .found f in
+      subst (λ (x : Run). AnswersAs s r b l (record { run = x; answer = answer.Found m o }) l′) (sym us) (record {
+        answer = sym i ∙ settled-in .answer;
+        run = g .run;
+        exact = ap (λ (x : Heads). runWith r x (a .ring) (After b)) (g .heads) ∙ sym (found-run (T .reply) b (drawnTo s (r .chroms) b (headsOf r)) r (a .ring) f);
+        room = g .room;
+        fair = λ y. g .fair;
+        kept = settled-in .kept;
+        streams = settled-in .streams;
+        rows = settled-in .rows;
+      })
+
+  -- an accepted base is not refused
+  pub not-refused : (x : Refusal) → a .answer ≡ answer.Refused x → ⊥
+  not-refused x i = unrefused (T .reply) x (pulling-pulled (r .chroms) (r .ring .room) (length (l .rows)) (heldOf s (l .cells) r) b) (reply-refused (T .reply) x (sym (settled-in .answer) ∙ i))
 
 -- ---- the tests before the pull, and the call
 

@@ -28,7 +28,7 @@ use Rattle.admit.specs.Fits.{Fits}
 use Rattle.admit.proofs.RightLaws.{right-off, fits-right}
 use Rattle.sweep.specs.declared.start.Begins.the-variants.{Begun, Refused}
 use Rattle.sweep.specs.View.{headsOf, runOf, eight}
-use Rattle.sweep.specs.Settle.{Lent}
+use Rattle.pulls.specs.Pulls.{Lent}
 use Rattle.sweep.specs.Give.{lensOf, rightOf, givenOf}
 use Rattle.sweep.specs.Start.{Plan, namesOf, rowIn, streamsOf, evened, inRows, inText, lendable, begunBy, freshRun, startOf, Lends}
 use Rattle.sweep.proofs.ViewLaws.{eight-at}

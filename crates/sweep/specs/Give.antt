@@ -25,7 +25,8 @@ use Rattle.sweep.specs.declared.Run.{Run}
 use Rattle.sweep.specs.declared.Given.{Given}
 use Rattle.sweep.specs.declared.Opened.{Opened}
 use Rattle.sweep.specs.View.{headsOf, runWith, runOf, heldOf}
-use Rattle.sweep.specs.Settle.{drawnTo, Going, Lent, Settles}
+use Rattle.pulls.specs.Pulls.{drawnTo, Lent}
+use Rattle.sweep.specs.Settle.{Going, Settles}
 
 -- ---- what is lent
 

@@ -22,7 +22,7 @@ use Rattle.sweep.specs.declared.start.Begins.{Begins}
 use Rattle.sweep.specs.declared.start.Begins.the-variants.{Begun, Refused}
 use Rattle.sweep.specs.declared.start.Started.{Started}
 use Rattle.sweep.specs.View.{eight}
-use Rattle.sweep.specs.Settle.{Lent}
+use Rattle.pulls.specs.Pulls.{Lent}
 
 -- ---- what a run is begun with
 

@@ -5,11 +5,7 @@ use admit::Gate;
 use admit::Lens;
 use heads::Check;
 use heads::Heads;
-use heads::Move;
-use heads::Taken;
-use queue::Pushed;
 use queue::Ring;
-use queue::Slot;
 use rules::Answer;
 use rules::Base;
 use rules::End;
@@ -24,7 +20,7 @@ ghost use Rattle.queue.specs.Ring.{cells, Fair};
 ghost use Rattle.sweep.specs.View.{headsOf, runWith, overOf};
 ghost use Rattle.heads.specs.Move.{Placed};
 ghost use Rattle.sweep.specs.Give.{Gives, Answerable, AnswersAs, OpensAs, OpenedAs};
-ghost use Rattle.sweep.specs.Settle.{lent, Keeps, Drawable, DrawsAs};
+ghost use Rattle.pulls.specs.Pulls.{lent};
 
 // A run: of each stream its head's chromosome, start, stop and row, whether it has ended, the place of the row behind its head in the
 // lent columns and where its rows begin and end there; the sizes; the queue's place in its memory; how the run stands.
@@ -55,48 +51,16 @@ struct Opened {
     wrong: Check,
 }
 
-// A number of rows or streams as a number, and a number as a place.
+// A number of rows or streams as a number.
 fn number(x: usize) -> u64
     ensures { λ r. ⌜ r ≡ x ⌝ }
 {
     x as u64
 }
 
-fn place_in(x: u64) -> usize
-    ensures { λ r. ⌜ r ≡ x ⌝ }
-{
-    x as usize
-}
-
-// A record that was taken is queued where it is live.
-fn keep(
-    q: Ring,
-    t: Taken,
-    qstream: &mut [u64],
-    qrow: &mut [u64],
-    qstart: &mut [u64],
-    qstop: &mut [u64],
-) -> Pushed
-    requires { ⌜ Fair q (cells (now qstream) (now qrow) (now qstart) (now qstop)) ⌝ }
-    ensures { λ p. ⌜ Keeps q (cells (now (qstream .entry)) (now (qrow .entry)) (now (qstart .entry)) (now (qstop .entry))) t p
-        (cells (now (qstream .exit)) (now (qrow .exit)) (now (qstart .exit)) (now (qstop .exit))) ⌝ }
-{
-    if !t.live {
-        return Pushed::Done(q);
-    }
-    let stream = t.stream;
-    let slot = Slot {
-        stream: stream,
-        row: t.row,
-        start: t.start,
-        stop: t.stop,
-    };
-    q.push(qstream, qrow, qstart, qstop, slot)
-}
-
 impl Run {
     // The run ended.
-    fn over(self, e: End) -> Given
+    pub fn over(self, e: End) -> Given
         ensures { λ g. ⌜ g ≡ record { run = overOf self e; answer = Answer.Ended e } ⌝ }
     {
         let q = self.ring;
@@ -121,128 +85,6 @@ impl Run {
         Given {
             run: run,
             answer: Answer::Ended(e),
-        }
-    }
-
-    // The run with another ring and stage.
-    fn at(self, ring: Ring, stage: Stage) -> Run
-        ensures { λ r. ⌜ r ≡ runWith self (headsOf self) ring stage ⌝ }
-    {
-        let chrom = self.chrom;
-        let start = self.start;
-        let stop = self.stop;
-        let row = self.row;
-        let ended = self.ended;
-        let next = self.next;
-        let from = self.from;
-        let to = self.to;
-        Run {
-            chrom: chrom,
-            start: start,
-            stop: stop,
-            row: row,
-            ended: ended,
-            next: next,
-            from: from,
-            to: to,
-            streams: self.streams,
-            chroms: self.chroms,
-            ring: ring,
-            stage: stage,
-        }
-    }
-
-    // Heads are taken while they lie ahead of the base's stop, and what is live is queued; then the base is answered.
-    fn draw(
-        self,
-        ring: Ring,
-        b: Base,
-        chrom: &[u64],
-        start: &[u64],
-        stop: &[u64],
-        qstream: &mut [u64],
-        qrow: &mut [u64],
-        qstart: &mut [u64],
-        qstop: &mut [u64],
-        streams: &mut [u64],
-        rows: &mut [u64],
-    ) -> Given
-        requires { ⌜ Drawable (cols (now chrom) (now start) (now stop)) self b ring (lent (cells (now qstream) (now qrow) (now qstart) (now qstop)) (now streams) (now rows)) ⌝ }
-        ensures { λ g. ⌜ DrawsAs (cols (now (chrom .entry)) (now (start .entry)) (now (stop .entry))) self b ring
-            (lent (cells (now (qstream .entry)) (now (qrow .entry)) (now (qstart .entry)) (now (qstop .entry))) (now (streams .entry)) (now (rows .entry))) g
-            (lent (cells (now (qstream .exit)) (now (qrow .exit)) (now (qstart .exit)) (now (qstop .exit))) (now (streams .exit)) (now (rows .exit))) ⌝ }
-    {
-        let n = number(self.chroms);
-        let mut u = self;
-        let mut q = ring;
-        loop {
-            let c = u.chrom;
-            let a = u.start;
-            let e = u.stop;
-            let r = u.row;
-            let fours = heads::fours(c, a, e, r);
-            let ended = u.ended;
-            let m = heads::decide(
-                fours,
-                ended,
-                u.streams,
-                &u.next,
-                &u.from,
-                &u.to,
-                b,
-                n,
-                chrom,
-                start,
-                stop,
-            );
-            match m {
-                Move::Stay(h) => {
-                    let answer = offers::report(
-                        q,
-                        h,
-                        b,
-                        qstream,
-                        qrow,
-                        qstart,
-                        qstop,
-                        streams,
-                        rows,
-                    );
-                    let run = u.at(q, Stage::After(b));
-                    return Given {
-                        run: run,
-                        answer: answer,
-                    };
-                }
-                Move::Wrong(x) => {
-                    return u.over(x);
-                }
-                Move::Ends(t) => {
-                    let p = keep(q, t, qstream, qrow, qstart, qstop);
-                    let Pushed::Done(w) = p else {
-                        return u.over(End::NoRoom);
-                    };
-                    q = w;
-                    let s = t.stream;
-                    let k = place_in(s.0);
-                    u.ended[k] = true;
-                }
-                Move::Goes(t, x) => {
-                    let p = keep(q, t, qstream, qrow, qstart, qstop);
-                    let Pushed::Done(w) = p else {
-                        return u.over(End::NoRoom);
-                    };
-                    q = w;
-                    let s = t.stream;
-                    let k = place_in(s.0);
-                    let d = x.chrom;
-                    u.chrom[k] = d.0;
-                    u.start[k] = x.start;
-                    u.stop[k] = x.stop;
-                    u.row[k] = x.row;
-                    u.next[k] = x.next;
-                }
-            }
         }
     }
 
@@ -318,7 +160,7 @@ impl Run {
         }
     }
 
-    // What is not live is cleared, and the pull begins.
+    // Answers an accepted base of a run whose heads are loaded.
     fn answer(
         self,
         b: Base,
@@ -338,9 +180,27 @@ impl Run {
             (lent (cells (now (qstream .exit)) (now (qrow .exit)) (now (qstart .exit)) (now (qstop .exit))) (now (streams .exit)) (now (rows .exit))) ⌝ }
     {
         let ring = self.ring;
-        let live = ring.clear(qstream, qrow, qstart, qstop, b);
-        self.draw(
-            live,
+        let mut hchrom = self.chrom;
+        let mut hstart = self.start;
+        let mut hstop = self.stop;
+        let mut hrow = self.row;
+        let mut ended = self.ended;
+        let mut next = self.next;
+        let from = self.from;
+        let to = self.to;
+        let n = number(self.chroms);
+        let a = pulls::settle(
+            &mut hchrom,
+            &mut hstart,
+            &mut hstop,
+            &mut hrow,
+            &mut ended,
+            &mut next,
+            &from,
+            &to,
+            self.streams,
+            n,
+            ring,
             b,
             chrom,
             start,
@@ -351,7 +211,36 @@ impl Run {
             qstop,
             streams,
             rows,
-        )
+        );
+        let after = a.ring;
+        let answer = a.answer;
+        match answer {
+            Answer::Found(m, o) => {
+                let run = Run {
+                    chrom: hchrom,
+                    start: hstart,
+                    stop: hstop,
+                    row: hrow,
+                    ended: ended,
+                    next: next,
+                    from: from,
+                    to: to,
+                    streams: self.streams,
+                    chroms: self.chroms,
+                    ring: after,
+                    stage: Stage::After(b),
+                };
+                Given {
+                    run: run,
+                    answer: answer,
+                }
+            }
+            Answer::Refused(x) => Given {
+                run: self,
+                answer: answer,
+            },
+            Answer::Ended(e) => self.over(e),
+        }
     }
 
     // The run with its heads loaded: at the first base they are read.

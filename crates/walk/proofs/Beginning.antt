@@ -28,7 +28,8 @@ use Rattle.queue.specs.Ring.{Cells}
 use Rattle.sweep.specs.declared.Run.{Run}
 use Rattle.sweep.specs.declared.start.Begins.the-variants.{Begun}
 use Rattle.sweep.specs.View.{runOf, headsOf}
-use Rattle.sweep.specs.Settle.{Lent, lent, Going}
+use Rattle.pulls.specs.Pulls.{Lent, lent}
+use Rattle.sweep.specs.Settle.{Going}
 use Rattle.sweep.specs.Start.{Plan, plan, rowIn, streamsOf, evened, ranged, inRows, inText, lendable, refusedOf, begunBy, startOf, Lends}
 use Rattle.sweep.proofs.Starting.{ranged-says}
 use Rattle.sweep.proofs.StartLaws.{begun-fresh, begun-right}

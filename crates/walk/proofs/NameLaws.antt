@@ -11,7 +11,7 @@ use Rattle.text.specs.Names.{part, within, names}
 use Rattle.rules.specs.declared.Base.{Base}
 use Rattle.heads.specs.View.{Cols}
 use Rattle.sweep.specs.declared.Run.{Run}
-use Rattle.sweep.specs.Settle.{Lent}
+use Rattle.pulls.specs.Pulls.{Lent}
 use Rattle.replies.specs.declared.Listed.{Listed}
 use Rattle.replies.specs.List.{Lists}
 use Rattle.walk.specs.Run.{Bases}

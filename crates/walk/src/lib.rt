@@ -12,7 +12,7 @@ ghost use lib.ListN.{length, getD};
 ghost use Rattle.text.specs.Names.{names};
 ghost use Rattle.heads.specs.View.{cols};
 ghost use Rattle.queue.specs.Ring.{cells};
-ghost use Rattle.sweep.specs.Settle.{lent};
+ghost use Rattle.pulls.specs.Pulls.{lent};
 ghost use Rattle.sweep.specs.Start.{startOf};
 ghost use Rattle.replies.specs.List.{Lists};
 ghost use Rattle.texts.specs.Texts.{rowsMost, room};

@@ -44,7 +44,7 @@ use lib.ListN.{length}
 use Rattle.rules.specs.declared.Base.{Base}
 use Rattle.heads.specs.View.{Cols, cols}
 use Rattle.queue.specs.Ring.{cells}
-use Rattle.sweep.specs.Settle.{Lent, lent}
+use Rattle.pulls.specs.Pulls.{Lent, lent}
 use Rattle.inplace.specs.Calls.{baseOf, GivesInPlace}
 use Rattle.inplace.specs.declared.held.Held.{Held}
 use Rattle.inplace.specs.declared.Stepped.{Stepped}

@@ -2,7 +2,7 @@
 use borrow.Author.Needs.{needs}
 use Rattle.listing.proofs.Telling.{Telling, telling-start, telling-end, telling-done, telling-on, Lengths, bases-fewer}
 use Rattle.listing.specs.Run.{linesFrom}
-use Rattle.sweep.specs.Settle.{lent}
+use Rattle.pulls.specs.Pulls.{lent}
 use Rattle.queue.specs.Ring.{cells}
 use Rattle.heads.specs.View.{cols}
 use Rattle.text.specs.Names.{names}

@@ -15,7 +15,7 @@ use Rattle.heads.specs.View.{Cols, cols}
 use Rattle.heads.specs.Move.{Shaped}
 use Rattle.queue.specs.Ring.{cells}
 use Rattle.sweep.specs.View.{headsOf}
-use Rattle.sweep.specs.Settle.{Lent, lent}
+use Rattle.pulls.specs.Pulls.{Lent, lent}
 use Rattle.sweep.proofs.Giving.{told-going, refused-so, over-so, fits, opened-answerable, opened-wrong, opened-so}
 use native.Mathlib.Omega.{arith}
 

@@ -33,7 +33,7 @@ use Rattle.heads.specs.declared.Move.{Move}
 use Rattle.heads.specs.declared.Move.the-variants as move
 use Rattle.heads.specs.View.{Cols, restsOf}
 use Rattle.heads.specs.Least.{bestOf}
-use Rattle.heads.specs.Move.{moved, endsAt, goesAt, takenRecord, Shaped}
+use Rattle.heads.specs.Move.{moved, endsAt, goesAt, takenRecord}
 use Rattle.heads.proofs.RestLaws.{onMove, queued, pull-move}
 use Rattle.heads.proofs.TurnLaws.{Turning, Takes, turn-here, ends-takes, goes-takes, stays-best, least-below}
 use Rattle.queue.specs.declared.Ring.{Ring}
@@ -42,11 +42,7 @@ use Rattle.queue.specs.Deeds.{Scannable, frontOf}
 use Rattle.queue.proofs.Waiting.{length-waiting}
 use Rattle.offers.specs.Offers.{offerBy, Reports}
 use Rattle.offers.proofs.OfferLaws.{offer-by}
-use Rattle.sweep.specs.declared.Run.{Run}
-use Rattle.sweep.specs.declared.Given.{Given}
-use Rattle.sweep.specs.View.{headsOf, runWith, runOf, overOf}
-use Rattle.sweep.specs.Settle.{turnOf, afterTurns, drawnTo, endedBy, runBy, Going, Kept, Lent, lent, Settles, pullOf, Drawable, slotOf, KeptAs, FullAs, DrawsAs}
-use Rattle.sweep.proofs.ViewLaws.{over-held}
+use Rattle.pulls.specs.Pulls.{turnOf, afterTurns, drawnTo, Kept, Lent, lent, Drawable, slotOf, KeptAs, FullAs, DrawsAs}
 
 -- ---- the heads
 
@@ -69,38 +65,28 @@ kept-trans h k = record { stream = k .stream ∙ h .stream; row = k .row ∙ h .
 pub fair-kept : {q w : Ring} {c d : Cells} → Fair q c → Fair w d → w .room ≡ q .room → Kept c d
 fair-kept f g e = record { stream = g .streams ∙ e ∙ sym (f .streams); row = g .rows ∙ e ∙ sym (f .rows); start = g .starts ∙ e ∙ sym (f .starts); stop = g .stops ∙ e ∙ sym (f .stops) }
 
--- a run that goes on is ended
-pub ended-going : (t : Stage) (r : Run) (e : End) → Going t → endedBy t r e ≡ overOf r e
-ended-going Fresh r e g = refl
-ended-going (After p) r e g = refl
-ended-going (Over x) r e g = absurd g
-
 -- ---- the loop
 
--- r, q and l: the run, the ring and what was lent at the start
-module _ (s : Cols) (r : Run) (b : Base) (q : Ring) (l : Lent) where
+-- h, q and l: the heads, the ring and what was lent at the start; n: the number of chromosomes
+module _ (s : Cols) (n : ℕ) (h : Heads) (b : Base) (q : Ring) (l : Lent) where
   -- the pull from what is left and what waits
   abbrev from : Heads → List Record → Pull Record End
-  from h queue = pull ahead (next (r .chroms)) NoRoom (taken b) (live b) (q .room) (restsOf s h) queue
+  from u queue = pull ahead (next n) NoRoom (taken b) (live b) (q .room) (restsOf s u) queue
 
-  -- u, w and c: the run, the ring and the queue's memory at a turn
-  pub record Drawing (u : Run) (w : Ring) (c : Cells) : Type 0 where
-    pub turning : Turning s (headsOf u)
-    pub same : u ≡ runWith r (headsOf u) (r .ring) (r .stage)
-    pub ranged : (u .from ≡ r .from) × (u .to ≡ r .to) × (u .streams ≡ r .streams)
+  -- u, w and c: the heads, the ring and the queue's memory at a turn
+  pub record Drawing (u : Heads) (w : Ring) (c : Cells) : Type 0 where
+    pub turning : Turning s u
     pub fair : Fair w c
     pub chrom : w .chrom ≡ b .chrom
     pub cleared : All (λ a. live b a ≡ true) (waiting w c)
     pub room : w .room ≡ q .room
     pub kept : Kept (l .cells) c
-    pub pulls : from (headsOf u) (waiting w c) ≡ from (headsOf r) (waiting q (l .cells))
-    pub draws : drawnTo s (r .chroms) b (headsOf u) ≡ drawnTo s (r .chroms) b (headsOf r)
+    pub pulls : from u (waiting w c) ≡ from h (waiting q (l .cells))
+    pub draws : drawnTo s n b u ≡ drawnTo s n b h
 
-  pub starts : Drawable s r b q l → Shaped (headsOf r) → Drawing r q (l .cells)
-  starts d z = record {
-    turning = record { placed = d .placed; shaped = z };
-    same = refl;
-    ranged = (refl, refl, refl);
+  pub starts : Drawable s h b q l → Drawing h q (l .cells)
+  starts d = record {
+    turning = record { placed = d .placed; shaped = d .shaped };
     fair = d .fair;
     chrom = d .chrom;
     cleared = d .cleared;
@@ -110,13 +96,13 @@ module _ (s : Cols) (r : Run) (b : Base) (q : Ring) (l : Lent) where
     draws = refl;
   }
 
-  module _ (u : Run) (w : Ring) (c : Cells) (d : Drawing u w c) where
+  module _ (u : Heads) (w : Ring) (c : Cells) (d : Drawing u w c) where
     abbrev pub here : Move
-    here = turn-here s (headsOf u) (d .turning) (r .chroms) b
+    here = turn-here s u (d .turning) n b
 
     -- a turn of the pull
-    pub on-move : (m : Move) → m ≡ here → from (headsOf u) (waiting w c) ≡ onMove s (headsOf u) (r .chroms) b NoRoom (q .room) (waiting w c) m
-    on-move m e = pull-move s (headsOf u) (d .turning .shaped) (d .turning .placed .few) (r .chroms) b NoRoom (q .room) (waiting w c) ∙ ap (onMove s (headsOf u) (r .chroms) b NoRoom (q .room) (waiting w c)) (sym e)
+    pub on-move : (m : Move) → m ≡ here → from u (waiting w c) ≡ onMove s u n b NoRoom (q .room) (waiting w c) m
+    on-move m e = pull-move s u (d .turning .shaped) (d .turning .placed .few) n b NoRoom (q .room) (waiting w c) ∙ ap (onMove s u n b NoRoom (q .room) (waiting w c)) (sym e)
 
     -- what waits after a head was taken
     more-kept : (t : Taken) (w′ : Ring) (c′ : Cells) → KeptAs w c t w′ c′ → waiting w′ c′ ≡ waiting w c ++ keep (t .live) (takenRecord b t) []
@@ -124,16 +110,16 @@ module _ (s : Cols) (r : Run) (b : Base) (q : Ring) (l : Lent) where
 
     -- the pull goes on from it
     queued-kept : (t : Taken) (w′ : Ring) (c′ : Cells) → KeptAs w c t w′ c′ → (ss : List (List Record))
-        → queued (r .chroms) b NoRoom (q .room) (waiting w c) t ss ≡ pull ahead (next (r .chroms)) NoRoom (taken b) (live b) (q .room) ss (waiting w′ c′)
+        → queued n b NoRoom (q .room) (waiting w c) t ss ≡ pull ahead (next n) NoRoom (taken b) (live b) (q .room) ss (waiting w′ c′)
     queued-kept t w′ c′ k ss = rw (more-kept t w′ c′ k) (go (t .live) refl)
       where
         go : (v : Bool) → t .live ≡ v
-            → cond v (cond (leb (q .room) (length (waiting w c))) (ends NoRoom) (pull ahead (next (r .chroms)) NoRoom (taken b) (live b) (q .room) ss (waiting w c ++ takenRecord b t ∷ []))) (pull ahead (next (r .chroms)) NoRoom (taken b) (live b) (q .room) ss (waiting w c))
-            ≡ pull ahead (next (r .chroms)) NoRoom (taken b) (live b) (q .room) ss (waiting w c ++ keep v (takenRecord b t) [])
+            → cond v (cond (leb (q .room) (length (waiting w c))) (ends NoRoom) (pull ahead (next n) NoRoom (taken b) (live b) (q .room) ss (waiting w c ++ takenRecord b t ∷ []))) (pull ahead (next n) NoRoom (taken b) (live b) (q .room) ss (waiting w c))
+            ≡ pull ahead (next n) NoRoom (taken b) (live b) (q .room) ss (waiting w c ++ keep v (takenRecord b t) [])
         go true e = rw (lt-leb (q .room) (length (waiting w c)) (omega (arith, k .fewer e, d .room)))
         go false e = rw (append-nil (waiting w c))
 
-    pub queued-full : (t : Taken) (c′ : Cells) → FullAs w c t c′ → (ss : List (List Record)) → queued (r .chroms) b NoRoom (q .room) (waiting w c) t ss ≡ ends NoRoom
+    pub queued-full : (t : Taken) (c′ : Cells) → FullAs w c t c′ → (ss : List (List Record)) → queued n b NoRoom (q .room) (waiting w c) t ss ≡ ends NoRoom
     queued-full t c′ k ss = rw (k .lives, le-leb (q .room) (length (waiting w c)) (omega (arith, k .full, d .room)))
 
     still-live : (t : Taken) (w′ : Ring) (c′ : Cells) → KeptAs w c t w′ c′ → (t .live ≡ true → live b (takenRecord b t) ≡ true) → All (λ a. live b a ≡ true) (waiting w′ c′)
@@ -144,64 +130,47 @@ module _ (s : Cols) (r : Run) (b : Base) (q : Ring) (l : Lent) where
         go false f = nil
 
     -- a head was taken: g are the heads after it
-    pub steps : (m : Move) → m ≡ here → (t : Taken) (u′ : Run) (g : Heads) → Takes s b (headsOf u) t g → moved (headsOf u) m ≡ g
-        → onMove s (headsOf u) (r .chroms) b NoRoom (q .room) (waiting w c) m ≡ queued (r .chroms) b NoRoom (q .room) (waiting w c) t (restsOf s g)
-        → u′ ≡ runWith u g (u .ring) (u .stage) → (g .from ≡ u .from) × (g .to ≡ u .to) × (g .streams ≡ u .streams)
-        → (w′ : Ring) (c′ : Cells) → KeptAs w c t w′ c′ → Drawing u′ w′ c′
-    steps m e t u′ g k to-g on is ranges w′ c′ p = rw is (record {
+    pub steps : (m : Move) → m ≡ here → (t : Taken) (g : Heads) → Takes s b u t g → moved u m ≡ g
+        → onMove s u n b NoRoom (q .room) (waiting w c) m ≡ queued n b NoRoom (q .room) (waiting w c) t (restsOf s g)
+        → (w′ : Ring) (c′ : Cells) → KeptAs w c t w′ c′ → Drawing g w′ c′
+    steps m e t g k to-g on w′ c′ p = record {
       turning = k .turning;
-      same = rw (d .same);
-      ranged = (ranges .0 ∙ d .ranged .0, ranges .1 ∙ d .ranged .1, ranges .2 ∙ d .ranged .2);
       fair = p .fair;
       chrom = p .chrom ∙ d .chrom;
       cleared = still-live t w′ c′ p (k .lively);
       room = p .room ∙ d .room;
       kept = kept-trans (d .kept) (fair-kept (d .fair) (p .fair) (p .room));
       pulls = sym (queued-kept t w′ c′ p (restsOf s g)) ∙ sym on ∙ sym (on-move m e) ∙ d .pulls;
-      draws = sym (turns-next s (r .chroms) b (headsOf u) g (ap (moved (headsOf u)) (sym e) ∙ to-g) (k .less)) ∙ d .draws;
-    })
+      draws = sym (turns-next s n b u g (ap (moved u) (sym e) ∙ to-g) (k .less)) ∙ d .draws;
+    }
 
     -- ---- the ways out
 
     -- the run ends by e
-    pub ends-so : Going (r .stage) → (e : End) (c′ : Cells) (ss : List ℕ) (rs : List ℕ) → Kept (l .cells) c′ → from (headsOf r) (waiting q (l .cells)) ≡ ends e
-        → (g : Given) → g ≡ record { run = overOf u e; answer = answer.Ended e } → ss ≡ l .streams → rs ≡ l .rows → DrawsAs s r b q l g (lent c′ ss rs)
-    ends-so z e c′ ss rs k is g gs sss rss = rw (is, gs, sss, rss) (record {
-      answer = refl;
-      run = ap (runOf s c′) over-same ∙ over-held s (l .cells) c′ r e (omega (arith, d .turning .placed .few, d .ranged .2));
-      exact = over-same ∙ sym (ended-going (r .stage) r e z);
-      room = ap (λ (x : Run). x .ring .room) over-same;
-      fair = λ z. absurd z;
-      kept = k;
-      streams = refl;
-      rows = refl;
-    })
-      where
-        over-same : overOf u e ≡ overOf r e
-        over-same = rw (d .same, d .ranged .0, d .ranged .1, d .ranged .2)
+    pub ends-so : (e : End) (c′ : Cells) (ss : List ℕ) (rs : List ℕ) → Kept (l .cells) c′ → from h (waiting q (l .cells)) ≡ ends e
+        → ss ≡ l .streams → rs ≡ l .rows → DrawsAs s n h b q l (record { ring = w; answer = answer.Ended e }) u (lent c′ ss rs)
+    ends-so e c′ ss rs k is sss rss = rw (is, sss, rss) (record { answer = refl; found = λ z. absurd z; kept = k; streams = refl; rows = refl })
 
     -- no head is to be taken: the base is answered
-    pub stays-so : Drawable s r b q l → (m : Move) → m ≡ here → (x : Best) → m ≡ move.Stay x → (v : Run) (a : Answer) (ss rs : List ℕ) → v ≡ runWith u (headsOf u) w (After b) → Reports w c x b (l .streams) (l .rows) a ss rs → DrawsAs s r b q l (record { run = v; answer = a }) (lent c ss rs)
-    stays-so z m e x i v a ss rs to k = rw is-paused (rw few (record {
+    pub stays-so : Drawable s h b q l → (m : Move) → m ≡ here → (x : Best) → m ≡ move.Stay x → (a : Answer) (ss rs : List ℕ) → Reports w c x b (l .streams) (l .rows) a ss rs
+        → DrawsAs s n h b q l (record { ring = w; answer = a }) u (lent c ss rs)
+    stays-so z m e x i a ss rs k = rw is-paused (rw few (record {
       answer = k .answer ∙ rw place;
-      run = ap (runOf s c) (to);
-      exact = to ∙ rw (d .same) (ap (λ (h : Heads). runWith r h w (After b)) (sym last-heads)) ∙ ap (λ (y : Run). runWith r (drawnTo s (r .chroms) b (headsOf r)) (y .ring) (After b)) (sym (to));
-      room = ap (λ (y : Run). y .ring .room) (to) ∙ d .room ∙ z .room;
-      fair = λ y. subst (λ (x : Run). Fair (x .ring) c) (sym (to)) (d .fair);
+      found = λ y. record { shaped = d .turning .shaped; heads = sym last-heads; run = refl; fair = d .fair; room = d .room };
       kept = d .kept;
       streams = k .streams;
       rows = k .rows;
     }))
       where
-        is-paused : from (headsOf r) (waiting q (l .cells)) ≡ paused (restsOf s (headsOf u)) (waiting w c)
-        is-paused = sym (d .pulls) ∙ on-move m e ∙ ap (onMove s (headsOf u) (r .chroms) b NoRoom (q .room) (waiting w c)) i
+        is-paused : from h (waiting q (l .cells)) ≡ paused (restsOf s u) (waiting w c)
+        is-paused = sym (d .pulls) ∙ on-move m e ∙ ap (onMove s u n b NoRoom (q .room) (waiting w c)) i
 
         few : ltb (length (l .rows)) (length (filter (overlaps b) (waiting w c))) ≡ false
         few = le-ltb (length (l .rows)) (length (filter (overlaps b) (waiting w c))) (omega (arith, length-filter (overlaps b) (waiting w c), length-waiting w c, d .fair .sound .fits, d .room, z .rows))
 
-        place : offerBy b (frontOf (head? (waiting w c))) x ≡ offer (coming (restsOf s (headsOf u)) (waiting w c)) b
-        place = ap (offerBy b (frontOf (head? (waiting w c)))) (stays-best s (headsOf u) (d .turning) (r .chroms) b m e x i)
-            ∙ offer-by b (restsOf s (headsOf u)) (least-below s (headsOf u) (d .turning) (r .chroms) b) (waiting w c) (d .cleared)
+        place : offerBy b (frontOf (head? (waiting w c))) x ≡ offer (coming (restsOf s u) (waiting w c)) b
+        place = ap (offerBy b (frontOf (head? (waiting w c)))) (stays-best s u (d .turning) n b m e x i)
+            ∙ offer-by b (restsOf s u) (least-below s u (d .turning) n b) (waiting w c) (d .cleared)
 
-        last-heads : drawnTo s (r .chroms) b (headsOf r) ≡ headsOf u
-        last-heads = sym (d .draws) ∙ turns-stay s (r .chroms) b (total (restsOf s (headsOf u))) (headsOf u) x (sym e ∙ i)
+        last-heads : drawnTo s n b h ≡ u
+        last-heads = sym (d .draws) ∙ turns-stay s n b (total (restsOf s u)) u x (sym e ∙ i)

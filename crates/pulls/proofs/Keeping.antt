@@ -13,7 +13,7 @@ use Rattle.queue.specs.declared.Pushed.{Pushed}
 use Rattle.queue.specs.declared.Pushed.the-variants.{Done, Full}
 use Rattle.queue.specs.Ring.{Cells, Fair, recordOf, waiting}
 use Rattle.queue.specs.Deeds.{Pushes}
-use Rattle.sweep.specs.Settle.{slotOf, KeptAs, FullAs, Keeps}
+use Rattle.pulls.specs.Pulls.{slotOf, KeptAs, FullAs, Keeps}
 
 pub keeps-dropped : (q : Ring) (c : Cells) (t : Taken) → Fair q c → t .live ≡ false → Keeps q c t (Done q) c
 keeps-dropped q c t f e = record {

@@ -1,11 +1,11 @@
 -- `keep` meets its contract: a record is dropped or queued.
 use borrow.Author.Needs.{needs}
-use Rattle.sweep.proofs.keep.Statement.{statement}
-use Rattle.sweep.proofs.keep.Tie as tie
-use Rattle.sweep.proofs.keep.Reads as reads
-use Rattle.sweep.proofs.keep.Lts as lts
+use Rattle.pulls.proofs.keep.Statement.{statement}
+use Rattle.pulls.proofs.keep.Tie as tie
+use Rattle.pulls.proofs.keep.Reads as reads
+use Rattle.pulls.proofs.keep.Lts as lts
 use Rattle.queue.proofs.Ring.push.Reads as push-reads
-use Rattle.sweep.proofs.Keeping.{keeps-dropped, keeps-queued}
+use Rattle.pulls.proofs.Keeping.{keeps-dropped, keeps-queued}
 use borrow.Author.Tests.{not-true, not-false}
 use native.Mathlib.Omega.{arith}
 

@@ -1,0 +1,2 @@
+-- Bases given one after the other in one call.
+pub mod Many

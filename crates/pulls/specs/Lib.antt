@@ -1,0 +1,2 @@
+-- What an accepted base comes to.
+pub mod Pulls
