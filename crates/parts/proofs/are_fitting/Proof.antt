@@ -35,7 +35,7 @@ shared-slice-read-t13 : tie.Need-shared-slice-read-t13 Inv-loop μ-loop
 shared-slice-read-t13 c = search needs
 
 is-fitting-requires : tie.Need-is-fitting-requires Inv-loop μ-loop
-is-fitting-requires c κs = search needs
+is-fitting-requires c κs = tt
 
 returns : tie.Need-returns Inv-loop μ-loop
 returns c =

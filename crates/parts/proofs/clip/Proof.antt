@@ -1,13 +1,12 @@
 -- `parts::clip` meets its contract: the two fields are what `larger` and `smaller` ensure. Assumes nothing.
-use borrow.Author.Needs.{needs}
 use Rattle.parts.proofs.clip.Statement.{statement}
 use Rattle.parts.proofs.clip.Tie as tie
 
 larger-requires : tie.Need-larger-requires
-larger-requires c κs = search needs
+larger-requires c κs = tt
 
 smaller-requires : tie.Need-smaller-requires
-smaller-requires c κs = search needs
+smaller-requires c κs = tt
 
 returns : tie.Need-returns
 returns c = cc

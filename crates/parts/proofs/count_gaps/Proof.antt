@@ -36,16 +36,16 @@ shared-slice-read-stretch-count : tie.Need-shared-slice-read-stretch-count Inv-l
 shared-slice-read-stretch-count c = search needs
 
 gap-end-requires : tie.Need-gap-end-requires Inv-loop μ-loop
-gap-end-requires c κs = search needs
+gap-end-requires c κs = tt
 
 stretch-count-requires : tie.Need-stretch-count-requires Inv-loop μ-loop
-stretch-count-requires c κs = search needs
+stretch-count-requires c κs = tt
 
 add-n : tie.Need-add-n Inv-loop μ-loop
 add-n c = search needs
 
 next-place-requires : tie.Need-next-place-requires Inv-loop μ-loop
-next-place-requires c κs = search needs
+next-place-requires c κs = tt
 
 add-i : tie.Need-add-i Inv-loop μ-loop
 add-i c = search needs
@@ -69,7 +69,7 @@ loop-again c =
     )
 
 stretch-count-requires-2 : tie.Need-stretch-count-requires-2 Inv-loop μ-loop
-stretch-count-requires-2 c κs = search needs
+stretch-count-requires-2 c κs = tt
 
 add-result : tie.Need-add-result Inv-loop μ-loop
 add-result c = search needs

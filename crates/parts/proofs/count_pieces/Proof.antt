@@ -35,7 +35,7 @@ shared-slice-read-t14 : tie.Need-shared-slice-read-t14 Inv-loop μ-loop
 shared-slice-read-t14 c = search needs
 
 piece-count-requires : tie.Need-piece-count-requires Inv-loop μ-loop
-piece-count-requires c κs = search needs
+piece-count-requires c κs = tt
 
 add-n : tie.Need-add-n Inv-loop μ-loop
 add-n c = search needs

@@ -1,19 +1,18 @@
 -- `parts::fill_both` meets its contract: one column after the other. Assumes nothing.
-use borrow.Author.Needs.{needs}
 use Rattle.parts.proofs.fill_both.Statement.{statement}
 use Rattle.parts.proofs.fill_both.Tie as tie
 
 fill-requires : tie.Need-fill-requires
-fill-requires c κs = search needs
+fill-requires c κs = c .before .before .before .pre .0
 
 fill-requires-2 : tie.Need-fill-requires-2
-fill-requires-2 c κs = search needs
+fill-requires-2 c κs = c .before .before .before .before .before .before .before .pre .1
 
 same-length : tie.Need-same-length
-same-length c = search needs
+same-length c = c .before .before .before .before .before .starts .given
 
 same-length-2 : tie.Need-same-length-2
-same-length-2 c = search needs
+same-length-2 c = c .before .stops .given
 
 returns : tie.Need-returns
 returns c = record { starts-are = c .before .before .before .before .before .before .fill .ensures; stops-are = c .before .before .fill2 .ensures }

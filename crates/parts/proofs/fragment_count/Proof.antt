@@ -28,7 +28,7 @@ enum-told-5 : tie.Need-enum-told-5
 enum-told-5 c = search needs
 
 count-gaps-requires : tie.Need-count-gaps-requires
-count-gaps-requires c κs = search needs
+count-gaps-requires c κs = c .before .before .before .before .pre
 
 returns-2 : tie.Need-returns-2
 returns-2 c = rw (c .enum-told .given .1) (count-bare (c .before .before .before .before .args .base) (spans (now (c .before .before .before .before .args .starts)) (now (c .before .before .before .before .args .stops))))

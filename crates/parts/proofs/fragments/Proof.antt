@@ -13,7 +13,7 @@ use Rattle.parts.proofs.fragments.Statement.{statement}
 use Rattle.parts.proofs.fragments.Tie as tie
 
 is-sized-requires : tie.Need-is-sized-requires
-is-sized-requires c κs = search needs
+is-sized-requires c κs = tt
 
 returns : tie.Need-returns
 returns c =
@@ -23,7 +23,7 @@ returns c =
     refused (a .a) (a .b) (a .base) (now (a .starts)) (now (a .stops)) cs Sizes (rw s)
 
 rule-of-requires : tie.Need-rule-of-requires
-rule-of-requires c κs = search needs
+rule-of-requires c κs = tt
 
 judge-requires : tie.Need-judge-requires
 judge-requires c κs =
@@ -49,25 +49,25 @@ enum-known-answer-2 : tie.Need-enum-known-answer-2
 enum-known-answer-2 c = search needs
 
 same-length : tie.Need-same-length
-same-length c = search needs
+same-length c = c .before .before .before .before .before .before .before .before .before .before .before .before .before .present .given
 
 same-length-2 : tie.Need-same-length-2
-same-length-2 c = search needs
+same-length-2 c = c .before .before .before .before .before .before .before .before .before .before .before .bstart .given
 
 same-length-3 : tie.Need-same-length-3
-same-length-3 c = search needs
+same-length-3 c = c .before .before .before .before .before .before .before .before .before .bstop .given
 
 same-length-4 : tie.Need-same-length-4
-same-length-4 c = search needs
+same-length-4 c = c .before .before .before .before .before .before .before .from .given
 
 same-length-5 : tie.Need-same-length-5
-same-length-5 c = search needs
+same-length-5 c = c .before .before .before .before .before .to .given
 
 same-length-6 : tie.Need-same-length-6
-same-length-6 c = search needs
+same-length-6 c = c .before .before .before .pstart .given
 
 same-length-7 : tie.Need-same-length-7
-same-length-7 c = search needs
+same-length-7 c = c .before .pstop .given
 
 returns-2 : tie.Need-returns-2
 returns-2 c =

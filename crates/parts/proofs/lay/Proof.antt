@@ -10,21 +10,20 @@ use native.Mathlib.Omega.{arith}
 use mathlib.Core.List.{List}
 use mathlib.Core.Path.{_≡_, ap, _∙_}
 use Prim.Native.Nat.{ℕ}
-use borrow.Author.Needs.{needs}
 use Rattle.parts.proofs.lay.Statement.{statement}
 use Rattle.parts.proofs.lay.Tie as tie
 
 mark-of-requires : tie.Need-mark-of-requires
-mark-of-requires c κs = search needs
+mark-of-requires c κs = tt
 
 fill-requires : tie.Need-fill-requires
-fill-requires c κs = search needs
+fill-requires c κs = c .before .before .before .before .before .before .before .before .before .before .before .pre .1 .present-fits
 
 lay-parts-requires : tie.Need-lay-parts-requires
-lay-parts-requires c κs = search needs
+lay-parts-requires c κs = (c .before .before .before .before .before .before .before .before .before .before .before .before .before .before .before .before .pre .0, c .before .before .before .before .before .before .before .before .before .before .before .before .before .before .before .before .pre .1 .fragments, c .before .before .before .before .before .before .before .before .before .before .before .before .before .before .before .before .pre .1 .bstart-fits, c .before .before .before .before .before .before .before .before .before .before .before .before .before .before .before .before .pre .1 .bstop-fits)
 
 lay-ranges-requires : tie.Need-lay-ranges-requires
-lay-ranges-requires c κs = search needs
+lay-ranges-requires c κs = (c .before .before .before .before .before .before .before .before .before .before .before .before .before .before .before .before .before .before .before .before .before .before .before .pre .0, c .before .before .before .before .before .before .before .before .before .before .before .before .before .before .before .before .before .before .before .before .before .before .before .pre .1 .fragments, c .before .before .before .before .before .before .before .before .before .before .before .before .before .before .before .before .before .before .before .before .before .before .before .pre .1 .pieces, c .before .before .before .before .before .before .before .before .before .before .before .before .before .before .before .before .before .before .before .before .before .before .before .pre .1 .from-fits, c .before .before .before .before .before .before .before .before .before .before .before .before .before .before .before .before .before .before .before .before .before .before .before .pre .1 .to-fits)
 
 lay-pieces-requires : tie.Need-lay-pieces-requires
 lay-pieces-requires c κs =
@@ -33,25 +32,25 @@ lay-pieces-requires c κs =
     (c .before .before .before .before .before .before .before .before .before .before .before .before .before .before .before .before .before .before .before .before .before .before .before .before .before .before .before .before .before .before .pre .0, h .fragments, omega (arith, h .pieces, h .pstart-fits), omega (arith, h .pieces, h .pstop-fits))
 
 same-length : tie.Need-same-length
-same-length c = search needs
+same-length c = c .before .before .before .before .before .before .before .before .before .before .before .before .before .before .before .before .before .before .before .before .before .before .present .given
 
 same-length-2 : tie.Need-same-length-2
-same-length-2 c = search needs
+same-length-2 c = c .before .before .before .before .before .before .before .before .before .before .before .before .before .before .before .before .before .bstart .given
 
 same-length-3 : tie.Need-same-length-3
-same-length-3 c = search needs
+same-length-3 c = c .before .before .before .before .before .before .before .before .before .before .before .before .before .before .before .bstop .given
 
 same-length-4 : tie.Need-same-length-4
-same-length-4 c = search needs
+same-length-4 c = c .before .before .before .before .before .before .before .before .before .before .from .given
 
 same-length-5 : tie.Need-same-length-5
-same-length-5 c = search needs
+same-length-5 c = c .before .before .before .before .before .before .before .before .to .given
 
 same-length-6 : tie.Need-same-length-6
-same-length-6 c = search needs
+same-length-6 c = c .before .before .before .pstart .given
 
 same-length-7 : tie.Need-same-length-7
-same-length-7 c = search needs
+same-length-7 c = c .before .pstop .given
 
 returns : tie.Need-returns
 returns c =

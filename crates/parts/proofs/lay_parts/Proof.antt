@@ -16,19 +16,19 @@ enum-told : tie.Need-enum-told
 enum-told c = search needs
 
 fill-both-requires : tie.Need-fill-both-requires
-fill-both-requires c κs = search needs
+fill-both-requires c κs = (c .before .before .before .before .before .before .before .before .pre .2, c .before .before .before .before .before .before .before .before .pre .3)
 
 enum-told-2 : tie.Need-enum-told-2
 enum-told-2 c = search needs
 
 fill-both-requires-2 : tie.Need-fill-both-requires-2
-fill-both-requires-2 c κs = search needs
+fill-both-requires-2 c κs = (c .before .before .before .before .before .before .before .before .pre .2, c .before .before .before .before .before .before .before .before .pre .3)
 
 enum-told-3 : tie.Need-enum-told-3
 enum-told-3 c = search needs
 
 fill-both-requires-3 : tie.Need-fill-both-requires-3
-fill-both-requires-3 c κs = search needs
+fill-both-requires-3 c κs = (c .before .before .before .before .before .before .before .before .pre .2, c .before .before .before .before .before .before .before .before .pre .3)
 
 enum-told-4 : tie.Need-enum-told-4
 enum-told-4 c = search needs
@@ -51,10 +51,10 @@ put-gaps-requires c κs =
     (h .0, (fits-front (gaps (a .base) (spans (now (a .starts)) (now (a .stops)))) (now (a .bstart)) (now (a .bstop)) (h .1 ∙ s .count) (h .2) (h .3)))
 
 same-length : tie.Need-same-length
-same-length c = search needs
+same-length c = c .before .before .before .bstart .given
 
 same-length-2 : tie.Need-same-length-2
-same-length-2 c = search needs
+same-length-2 c = c .before .bstop .given
 
 returns : tie.Need-returns
 returns c =
@@ -63,10 +63,10 @@ returns c =
     fronts-alike 0 0 (h .1) (same-bare partStart (a .parting) (a .base) (spans (now (a .starts)) (now (a .stops))) (c .before .before .before .before .before .before .before .enum-told .given .1)) (same-bare partStop (a .parting) (a .base) (spans (now (a .starts)) (now (a .stops))) (c .before .before .before .before .before .before .before .enum-told .given .1)) (c .before .before .before .before .fill-both .ensures)
 
 same-length-3 : tie.Need-same-length-3
-same-length-3 c = search needs
+same-length-3 c = c .before .before .before .bstart2 .given
 
 same-length-4 : tie.Need-same-length-4
-same-length-4 c = search needs
+same-length-4 c = c .before .bstop2 .given
 
 returns-2 : tie.Need-returns-2
 returns-2 c =
@@ -75,10 +75,10 @@ returns-2 c =
     fronts-alike (a .base .start) (a .base .stop) (h .1) (same-single partStart (a .parting) (a .base) (spans (now (a .starts)) (now (a .stops))) (c .before .before .before .before .before .before .before .enum-told2 .given .1)) (same-single partStop (a .parting) (a .base) (spans (now (a .starts)) (now (a .stops))) (c .before .before .before .before .before .before .before .enum-told2 .given .1)) (c .before .before .before .before .fill-both2 .ensures)
 
 same-length-5 : tie.Need-same-length-5
-same-length-5 c = search needs
+same-length-5 c = c .before .before .before .bstart3 .given
 
 same-length-6 : tie.Need-same-length-6
-same-length-6 c = search needs
+same-length-6 c = c .before .bstop3 .given
 
 returns-3 : tie.Need-returns-3
 returns-3 c =
@@ -87,10 +87,10 @@ returns-3 c =
     fronts-alike (a .base .start) (a .base .stop) (h .1) (same-records partStart (a .parting) (a .base) (spans (now (a .starts)) (now (a .stops))) (c .before .before .before .before .before .before .before .enum-told3 .given .1)) (same-records partStop (a .parting) (a .base) (spans (now (a .starts)) (now (a .stops))) (c .before .before .before .before .before .before .before .enum-told3 .given .1)) (c .before .before .before .before .fill-both3 .ensures)
 
 same-length-7 : tie.Need-same-length-7
-same-length-7 c = search needs
+same-length-7 c = c .before .before .before .bstart4 .given
 
 same-length-8 : tie.Need-same-length-8
-same-length-8 c = search needs
+same-length-8 c = c .before .bstop4 .given
 
 returns-4 : tie.Need-returns-4
 returns-4 c =
@@ -100,10 +100,10 @@ returns-4 c =
     fronts-as (s .starts) (s .stops) (fronts (c .before .before .before .before .put-all .ensures) (fits-front (allGiven Clip (a .base) (spans (now (a .starts)) (now (a .stops)))) (now (a .bstart)) (now (a .bstop)) (h .1 ∙ s .count) (h .2) (h .3)))
 
 same-length-9 : tie.Need-same-length-9
-same-length-9 c = search needs
+same-length-9 c = c .before .before .before .bstart5 .given
 
 same-length-10 : tie.Need-same-length-10
-same-length-10 c = search needs
+same-length-10 c = c .before .bstop5 .given
 
 returns-5 : tie.Need-returns-5
 returns-5 c =

@@ -6,7 +6,6 @@ use Rattle.parts.specs.Spans.{spans}
 use denote.Ref.{now}
 use lib.ListN.{length}
 use mathlib.Core.Path.{_≡_, refl, sym, ap, _∙_}
-use borrow.Author.Needs.{needs}
 use Rattle.parts.proofs.lay_pieces.Statement.{statement}
 use Rattle.parts.proofs.lay_pieces.Tie as tie
 
@@ -24,10 +23,10 @@ put-all-requires c κs =
     (h .0, fits-front (allGiven (a .rule .1) (a .base) (spans (now (a .starts)) (now (a .stops)))) (now (a .pstart)) (now (a .pstop)) (ap length e) (h .2) (h .3))
 
 same-length : tie.Need-same-length
-same-length c = search needs
+same-length c = c .before .before .before .pstart .given
 
 same-length-2 : tie.Need-same-length-2
-same-length-2 c = search needs
+same-length-2 c = c .before .pstop .given
 
 returns-2 : tie.Need-returns-2
 returns-2 c =

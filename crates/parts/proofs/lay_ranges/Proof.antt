@@ -9,12 +9,11 @@ use denote.Ref.{now}
 use lib.ListN.{length, replicate}
 use mathlib.Core.Bool.{true, false}
 use mathlib.Core.Path.{_≡_, sym, ap, _∙_}
-use borrow.Author.Needs.{needs}
 use Rattle.parts.proofs.lay_ranges.Statement.{statement}
 use Rattle.parts.proofs.lay_ranges.Tie as tie
 
 is-owning-requires : tie.Need-is-owning-requires
-is-owning-requires c κs = search needs
+is-owning-requires c κs = tt
 
 put-ranges-requires : tie.Need-put-ranges-requires
 put-ranges-requires c κs =
@@ -24,10 +23,10 @@ put-ranges-requires c κs =
     (h .0, fits-front (spans (now (a .starts)) (now (a .stops))) (now (a .from)) (now (a .to)) (h .1 ∙ owning-count (a .rule .0) (a .base) (spans (now (a .starts)) (now (a .stops))) o) (h .3) (h .4))
 
 same-length : tie.Need-same-length
-same-length c = search needs
+same-length c = c .before .before .before .from .given
 
 same-length-2 : tie.Need-same-length-2
-same-length-2 c = search needs
+same-length-2 c = c .before .to .given
 
 returns : tie.Need-returns
 returns c =
@@ -37,13 +36,13 @@ returns c =
     rw o (fronts (c .before .before .before .before .put-ranges .ensures) (fits-front (owned (given (a .rule .1) (a .base)) 0 (spans (now (a .starts)) (now (a .stops)))) (now (a .from)) (now (a .to)) (h .1 ∙ owning-count (a .rule .0) (a .base) (spans (now (a .starts)) (now (a .stops))) o ∙ sym (length-owned (given (a .rule .1) (a .base)) 0 (spans (now (a .starts)) (now (a .stops))))) (h .3) (h .4)))
 
 fill-both-requires : tie.Need-fill-both-requires
-fill-both-requires c κs = search needs
+fill-both-requires c κs = (c .before .before .before .before .before .before .before .before .pre .3, c .before .before .before .before .before .before .before .before .pre .4)
 
 same-length-3 : tie.Need-same-length-3
-same-length-3 c = search needs
+same-length-3 c = c .before .before .before .from2 .given
 
 same-length-4 : tie.Need-same-length-4
-same-length-4 c = search needs
+same-length-4 c = c .before .to2 .given
 
 returns-2 : tie.Need-returns-2
 returns-2 c =

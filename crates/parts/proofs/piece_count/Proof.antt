@@ -18,16 +18,16 @@ enum-told-4 : tie.Need-enum-told-4
 enum-told-4 c = search needs
 
 smaller-requires : tie.Need-smaller-requires
-smaller-requires c κs = search needs
+smaller-requires c κs = tt
 
 stretch-count-requires : tie.Need-stretch-count-requires
-stretch-count-requires c κs = search needs
+stretch-count-requires c κs = tt
 
 larger-requires : tie.Need-larger-requires
-larger-requires c κs = search needs
+larger-requires c κs = tt
 
 stretch-count-requires-2 : tie.Need-stretch-count-requires-2
-stretch-count-requires-2 c κs = search needs
+stretch-count-requires-2 c κs = tt
 
 add-result : tie.Need-add-result
 add-result c = search needs

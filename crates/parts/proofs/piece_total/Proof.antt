@@ -5,7 +5,6 @@ use denote.Ref.{now}
 use Rattle.parts.proofs.Bases.{pieces-none, pieces-all}
 use lib.ListN.{length}
 use mathlib.Core.Path.{_≡_, sym, ap, _∙_}
-use borrow.Author.Needs.{needs}
 use Rattle.parts.proofs.piece_total.Statement.{statement}
 use Rattle.parts.proofs.piece_total.Tie as tie
 
@@ -15,7 +14,7 @@ returns c =
     (sym (c .before .before .before .pre .1) ∙ c .if1 .taken)))
 
 count-pieces-requires : tie.Need-count-pieces-requires
-count-pieces-requires c κs = search needs
+count-pieces-requires c κs = c .before .before .before .pre .0
 
 returns-2 : tie.Need-returns-2
 returns-2 c =

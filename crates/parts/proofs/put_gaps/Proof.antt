@@ -36,7 +36,7 @@ shared-slice-read-t17 : tie.Need-shared-slice-read-t17 Inv-loop μ-loop
 shared-slice-read-t17 c = search needs
 
 gap-end-requires : tie.Need-gap-end-requires Inv-loop μ-loop
-gap-end-requires c κs = search needs
+gap-end-requires c κs = tt
 
 put-stretch-requires : tie.Need-put-stretch-requires Inv-loop μ-loop
 put-stretch-requires c κs =
@@ -46,7 +46,7 @@ put-stretch-requires c κs =
     (walk-at (now (a .starts)) (now (a .stops)) (l .i) (c .before .before .before .before .before .before .before .before .before .before .before .pre .0) (c .before .before .before .before .before .loop-test .taken) (l .place) (a .base .stop)) (l .inv .1) (c .before .before .before .before .before .before .before .before .before .before .before .pre .1))
 
 next-place-requires : tie.Need-next-place-requires Inv-loop μ-loop
-next-place-requires c κs = search needs
+next-place-requires c κs = tt
 
 add-i : tie.Need-add-i Inv-loop μ-loop
 add-i c = search needs

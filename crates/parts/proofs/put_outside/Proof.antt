@@ -1,15 +1,15 @@
 -- `parts::put_outside` meets its contract: two stretches, one behind the other. Assumes nothing.
+use mathlib.Core.Path.{_∙_}
 use Rattle.parts.specs.Fragments.{before, after}
 use Rattle.parts.proofs.Writing.{fits-first, fits-second, puts-both}
-use borrow.Author.Needs.{needs}
 use Rattle.parts.proofs.put_outside.Statement.{statement}
 use Rattle.parts.proofs.put_outside.Tie as tie
 
 smaller-requires : tie.Need-smaller-requires
-smaller-requires c κs = search needs
+smaller-requires c κs = tt
 
 larger-requires : tie.Need-larger-requires
-larger-requires c κs = search needs
+larger-requires c κs = tt
 
 put-stretch-requires : tie.Need-put-stretch-requires
 put-stretch-requires c κs =
@@ -22,10 +22,10 @@ put-stretch-requires-2 c κs =
     rw (c .before .before .before .before .before .before .before .before .before .larger .ensures) (fits-second (before (a .base) (a .r)) (after (a .base) (a .r)) _ _ _ (rw (c .before .before .before .before .before .before .before .before .before .before .smaller .ensures) at (c .before .before .before .before .before .before .put-stretch .ensures)) (c .before .before .before .before .before .before .before .before .before .before .before .before .before .pre))
 
 same-length : tie.Need-same-length
-same-length c = search needs
+same-length c = c .before .before .before .starts2 .given ∙ c .before .before .before .before .before .before .before .before .before .before .starts .given
 
 same-length-2 : tie.Need-same-length-2
-same-length-2 c = search needs
+same-length-2 c = c .before .stops2 .given ∙ c .before .before .before .before .before .before .before .before .stops .given
 
 returns : tie.Need-returns
 returns c =

@@ -18,7 +18,7 @@ enum-told-3 : tie.Need-enum-told-3
 enum-told-3 c = search needs
 
 clip-requires : tie.Need-clip-requires
-clip-requires c κs = search needs
+clip-requires c κs = tt
 
 put-span-requires-2 : tie.Need-put-span-requires-2
 put-span-requires-2 c κs = omega (arith, (rw (c .before .before .before .enum-told3 .given .1) at (c .before .before .before .before .before .before .before .pre)) .starts-fit, (rw (c .before .before .before .enum-told3 .given .1) at (c .before .before .before .before .before .before .before .pre)) .stops-fit)
@@ -33,28 +33,28 @@ returns : tie.Need-returns
 returns c = rw (c .enum-told .given .1) (puts-none _ _ _)
 
 same-length : tie.Need-same-length
-same-length c = search needs
+same-length c = c .before .before .before .starts .given
 
 same-length-2 : tie.Need-same-length-2
-same-length-2 c = search needs
+same-length-2 c = c .before .stops .given
 
 returns-2 : tie.Need-returns-2
 returns-2 c = rw (c .before .before .before .before .before .before .before .enum-told2 .given .1) (c .before .before .before .before .put-span .ensures)
 
 same-length-3 : tie.Need-same-length-3
-same-length-3 c = search needs
+same-length-3 c = c .before .before .before .starts2 .given
 
 same-length-4 : tie.Need-same-length-4
-same-length-4 c = search needs
+same-length-4 c = c .before .stops2 .given
 
 returns-3 : tie.Need-returns-3
 returns-3 c = rw (c .before .before .before .before .before .before .before .before .enum-told3 .given .1) (rw (c .before .before .before .before .before .before .before .clip .ensures) at (c .before .before .before .before .put-span2 .ensures))
 
 same-length-5 : tie.Need-same-length-5
-same-length-5 c = search needs
+same-length-5 c = c .before .before .before .starts3 .given
 
 same-length-6 : tie.Need-same-length-6
-same-length-6 c = search needs
+same-length-6 c = c .before .stops3 .given
 
 returns-4 : tie.Need-returns-4
 returns-4 c = rw (c .before .before .before .before .before .before .before .enum-told4 .given .1) (c .before .before .before .before .put-outside .ensures)

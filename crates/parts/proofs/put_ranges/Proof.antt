@@ -39,7 +39,7 @@ shared-slice-read-t17 : tie.Need-shared-slice-read-t17 Inv-loop μ-loop
 shared-slice-read-t17 c = search needs
 
 piece-count-requires : tie.Need-piece-count-requires Inv-loop μ-loop
-piece-count-requires c κs = search needs
+piece-count-requires c κs = tt
 
 add-next : tie.Need-add-next Inv-loop μ-loop
 add-next c = search needs

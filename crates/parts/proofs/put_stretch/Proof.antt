@@ -2,7 +2,6 @@
 use Rattle.parts.proofs.Writing.{puts-none}
 use borrow.Author.Tests.{lt-ltb, le-ltb}
 use native.Mathlib.Omega.{arith}
-use borrow.Author.Needs.{needs}
 use Rattle.parts.proofs.put_stretch.Statement.{statement}
 use Rattle.parts.proofs.put_stretch.Tie as tie
 
@@ -10,10 +9,10 @@ put-span-requires : tie.Need-put-span-requires
 put-span-requires c κs = omega (arith, rw (lt-ltb _ _ (c .before .before .if1 .taken)) at (c .before .before .before .before .before .pre .starts-fit), rw (lt-ltb _ _ (c .before .before .if1 .taken)) at (c .before .before .before .before .before .pre .stops-fit))
 
 same-length : tie.Need-same-length
-same-length c = search needs
+same-length c = c .before .before .before .starts .given
 
 same-length-2 : tie.Need-same-length-2
-same-length-2 c = search needs
+same-length-2 c = c .before .stops .given
 
 returns : tie.Need-returns
 returns c = rw (lt-ltb _ _ (c .before .before .before .before .before .before .before .if1 .taken)) (c .before .before .before .before .put-span .ensures)

@@ -12,10 +12,10 @@ use Rattle.parts.proofs.rule_of.Statement.{statement}
 use Rattle.parts.proofs.rule_of.Tie as tie
 
 place-of-requires : tie.Need-place-of-requires
-place-of-requires c κs = search needs
+place-of-requires c κs = tt
 
 place-of-requires-2 : tie.Need-place-of-requires-2
-place-of-requires-2 c κs = search needs
+place-of-requires-2 c κs = tt
 
 mul-result : tie.Need-mul-result
 mul-result c = search needs
@@ -45,7 +45,7 @@ returns c =
     let i = c .before .before .place-of .result in
     let j = c .before .place-of2 .result in
     entry-is (c .before .before .before .args .a) (c .before .before .before .args .b) i j _ (c .before .before .place-of .ensures .0) (c .before .place-of2 .ensures .0)
-    (at2 right (entry Bare Nothing) 5 rules tt i j (search needs) (search needs))
+    (at2 right (entry Bare Nothing) 5 rules tt i j (c .before .before .place-of .ensures .1) (c .before .place-of2 .ensures .1))
 
 pub rule-of-spec : {M : Type 1} → statement M
 rule-of-spec =
