@@ -1,6 +1,5 @@
 -- `texts::is_sized` meets its contract. Assumes nothing.
 use Rattle.texts.proofs.Parting.{sized-by}
-use borrow.Author.Needs.{needs}
 use Rattle.texts.proofs.is_sized.Statement.{statement}
 use Rattle.texts.proofs.is_sized.Tie as tie
 use Rattle.texts.proofs.is_sized.Reads as reads
@@ -9,7 +8,7 @@ use Rattle.texts.proofs.parts_all.Reads as parts-all-reads
 
 -- src/lib.rt:111:9
 parts-all-requires : tie.Need-parts-all-requires
-parts-all-requires c κs = search needs
+parts-all-requires c κs = tt
 
 -- src/lib.rt:106:1
 returns : tie.Need-returns

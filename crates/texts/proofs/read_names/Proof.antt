@@ -2,7 +2,6 @@
 use Rattle.texts.proofs.Naming.{count-from, count-to, from-long, to-long, len-long, names-got}
 use mathlib.Core.Path.{sym}
 use lib.Seq.{length-take-le}
-use borrow.Author.Needs.{needs}
 use Rattle.texts.proofs.read_names.Statement.{statement}
 use Rattle.texts.proofs.read_names.Tie as tie
 use Rattle.texts.proofs.read_names.Reads as reads
@@ -16,11 +15,11 @@ use Rattle.texts.proofs.verdict_at.Reads as verdict-at-reads
 
 -- src/lib.rt:120:9
 read-list-requires : tie.Need-read-list-requires
-read-list-requires c κs = search needs
+read-list-requires c κs = tt
 
 -- src/lib.rt:121:9
 rows-ahead-requires : tie.Need-rows-ahead-requires
-rows-ahead-requires c κs = search needs
+rows-ahead-requires c κs = tt
 
 -- src/lib.rt:122:38
 slice-reshare-prefix-check-list : tie.Need-slice-reshare-prefix-check-list
@@ -40,31 +39,31 @@ slice-aggregate-check-list-2 c = sym (length-take-le _ _ (count-to _ _ _ _ _ _ _
 
 -- src/lib.rt:122:9
 check-list-requires : tie.Need-check-list-requires
-check-list-requires c κs = search needs
+check-list-requires c κs = tt
 
 -- src/lib.rt:124:24
 verdict-at-requires : tie.Need-verdict-at-requires
-verdict-at-requires c κs = search needs
+verdict-at-requires c κs = tt
 
 -- src/lib.rt:124:42
 check-verdict-requires : tie.Need-check-verdict-requires
-check-verdict-requires c κs = search needs
+check-verdict-requires c κs = tt
 
 -- src/lib.rt:124:18
 first-requires : tie.Need-first-requires
-first-requires c κs = search needs
+first-requires c κs = tt
 
 -- src/lib.rt:116:1
 same-length : tie.Need-same-length
-same-length c = search needs
+same-length c = c .before .before .before .before .before .before .before .before .before .before .before .before .from .given
 
 -- src/lib.rt:116:1
 same-length-2 : tie.Need-same-length-2
-same-length-2 c = search needs
+same-length-2 c = c .before .before .before .before .before .before .before .before .before .before .to .given
 
 -- src/lib.rt:116:1
 same-length-3 : tie.Need-same-length-3
-same-length-3 c = search needs
+same-length-3 c = c .before .before .before .before .before .before .before .before .len .given
 
 -- src/lib.rt:116:1
 returns : tie.Need-returns

@@ -62,7 +62,7 @@ part-read-rows-end-3 c = search needs
 
 -- src/lib.rt:145:5
 read-rows-requires : tie.Need-read-rows-requires
-read-rows-requires c κs = search needs
+read-rows-requires c κs = tt
 
 -- src/lib.rt:130:1
 same-length : tie.Need-same-length

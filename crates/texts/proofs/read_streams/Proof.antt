@@ -77,7 +77,7 @@ read-part-requires c κs = stream-slots (c .before .before .before .before .befo
 
 -- src/lib.rt:180:23
 rows-ahead-requires : tie.Need-rows-ahead-requires Inv-loop μ-loop
-rows-ahead-requires c κs = search needs
+rows-ahead-requires c κs = tt
 
 -- src/lib.rt:180:19
 add-tops : tie.Need-add-tops Inv-loop μ-loop
@@ -97,11 +97,11 @@ add-verdict-at c = omega (arith, few-ends (c .before .before .before .before .be
 
 -- src/lib.rt:181:34
 verdict-at-requires : tie.Need-verdict-at-requires Inv-loop μ-loop
-verdict-at-requires c κs = search needs
+verdict-at-requires c κs = tt
 
 -- src/lib.rt:181:9
 first-requires : tie.Need-first-requires Inv-loop μ-loop
-first-requires c κs = search needs
+first-requires c κs = tt
 
 -- src/lib.rt:182:9
 add-k : tie.Need-add-k Inv-loop μ-loop

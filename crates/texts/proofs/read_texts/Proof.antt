@@ -19,7 +19,7 @@ use Rattle.texts.proofs.verdict_at.Reads as verdict-at-reads
 
 -- src/lib.rt:209:9
 is-sized-requires : tie.Need-is-sized-requires
-is-sized-requires c κs = search needs
+is-sized-requires c κs = tt
 
 -- src/lib.rt:210:9
 returns : tie.Need-returns
@@ -95,19 +95,19 @@ read-streams-requires c κs = streams-readable (c .before .before .before .befor
 
 -- src/lib.rt:229:39
 verdict-at-requires : tie.Need-verdict-at-requires
-verdict-at-requires c κs = search needs
+verdict-at-requires c κs = tt
 
 -- src/lib.rt:229:33
 first-requires : tie.Need-first-requires
-first-requires c κs = search needs
+first-requires c κs = tt
 
 -- src/lib.rt:229:18
 first-requires-2 : tie.Need-first-requires-2
-first-requires-2 c κs = search needs
+first-requires-2 c κs = tt
 
 -- src/lib.rt:231:16
 rows-ahead-requires : tie.Need-rows-ahead-requires
-rows-ahead-requires c κs = search needs
+rows-ahead-requires c κs = tt
 
 -- src/lib.rt:232:18
 sub-t63 : tie.Need-sub-t63
@@ -127,27 +127,27 @@ same-length-3 c = omega (arith, c .before .before .before .before .before .befor
 
 -- src/lib.rt:192:1
 same-length-4 : tie.Need-same-length-4
-same-length-4 c = search needs
+same-length-4 c = c .before .before .before .before .before .before .before .before .before .before .before .before .before .before .before .before .before .before .before .before .before .before .bchrom .given
 
 -- src/lib.rt:192:1
 same-length-5 : tie.Need-same-length-5
-same-length-5 c = search needs
+same-length-5 c = c .before .before .before .before .before .before .before .before .before .before .before .before .before .before .before .before .before .before .before .before .bstart .given
 
 -- src/lib.rt:192:1
 same-length-6 : tie.Need-same-length-6
-same-length-6 c = search needs
+same-length-6 c = c .before .before .before .before .before .before .before .before .before .before .before .before .before .before .before .before .before .before .bstop .given
 
 -- src/lib.rt:192:1
 same-length-7 : tie.Need-same-length-7
-same-length-7 c = search needs
+same-length-7 c = c .before .before .before .before .before .before .before .before .before .before .chrom .given
 
 -- src/lib.rt:192:1
 same-length-8 : tie.Need-same-length-8
-same-length-8 c = search needs
+same-length-8 c = c .before .before .before .before .before .before .before .before .start .given
 
 -- src/lib.rt:192:1
 same-length-9 : tie.Need-same-length-9
-same-length-9 c = search needs
+same-length-9 c = c .before .before .before .before .before .before .stop .given
 
 -- src/lib.rt:192:1
 returns-2 : tie.Need-returns-2
