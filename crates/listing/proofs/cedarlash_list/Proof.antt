@@ -50,11 +50,11 @@ list-columns-requires c κs = search needs
 
 -- src/lib.rt:220:5
 told-requires : tie.Need-told-requires
-told-requires c κs = search needs
+told-requires c κs = tt
 
 -- src/lib.rt:204:1
 same-length : tie.Need-same-length
-same-length c = search needs
+same-length c = c .before .before .out .given
 
 -- src/lib.rt:204:1
 returns : tie.Need-returns

@@ -67,7 +67,7 @@ list-bases-requires c κs = (bases-read (c .before .before .before .before .befo
 
 -- src/lib.rt:101:1
 same-length : tie.Need-same-length
-same-length c = search needs
+same-length c = c .before .out .given
 
 -- src/lib.rt:101:1
 returns : tie.Need-returns
