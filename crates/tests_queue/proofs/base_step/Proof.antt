@@ -6,7 +6,7 @@ use Rattle.tests_queue.proofs.base_step.Statement.{statement}
 use Rattle.tests_queue.proofs.base_step.Tie as tie
 
 show-base-requires : tie.Need-show-base-requires
-show-base-requires c κs = search needs
+show-base-requires c κs = tt
 
 clear-requires : tie.Need-clear-requires
 clear-requires c κs = search needs
@@ -28,28 +28,28 @@ front-requires : tie.Need-front-requires
 front-requires c κs = search needs
 
 show-front-requires : tie.Need-show-front-requires
-show-front-requires c κs = search needs
+show-front-requires c κs = tt
 
 show-requires : tie.Need-show-requires
 show-requires c κs = search needs
 
 same-length : tie.Need-same-length
-same-length c = search needs
+same-length c = c .before .before .before .before .before .before .before .before .before .before .before .before .before .before .before .before .before .before .before .before .before .before .before .before .before .before .before .before .before .stream .given
 
 same-length-2 : tie.Need-same-length-2
-same-length-2 c = search needs
+same-length-2 c = c .before .before .before .before .before .before .before .before .before .before .before .before .before .before .before .before .before .before .before .before .before .before .before .before .before .before .before .row .given
 
 same-length-3 : tie.Need-same-length-3
-same-length-3 c = search needs
+same-length-3 c = c .before .before .before .before .before .before .before .before .before .before .before .before .before .before .before .before .before .before .before .before .before .before .before .before .before .start .given
 
 same-length-4 : tie.Need-same-length-4
-same-length-4 c = search needs
+same-length-4 c = c .before .before .before .before .before .before .before .before .before .before .before .before .before .before .before .before .before .before .before .before .before .before .before .stop .given
 
 same-length-5 : tie.Need-same-length-5
-same-length-5 c = search needs
+same-length-5 c = c .before .before .before .before .before .before .before .before .before .before .before .before .before .before .streams .given
 
 same-length-6 : tie.Need-same-length-6
-same-length-6 c = search needs
+same-length-6 c = c .before .before .before .before .before .before .before .before .before .before .before .before .rows .given
 
 returns : tie.Need-returns
 returns c = search needs

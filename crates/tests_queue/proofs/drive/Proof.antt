@@ -18,10 +18,10 @@ abbrev μ-loop : tie.MeasureT-loop
 μ-loop stream₀ row₀ start₀ stop₀ streams₀ rows₀ room ring₀ i₀ stream row start stop streams rows ring i = 20 - i
 
 show-room-requires : tie.Need-show-room-requires Inv-loop μ-loop
-show-room-requires c κs = search needs
+show-room-requires c κs = tt
 
 empty-requires : tie.Need-empty-requires Inv-loop μ-loop
-empty-requires c κs = search needs
+empty-requires c κs = tt
 
 loop-holds : tie.Need-loop-holds Inv-loop μ-loop
 loop-holds c =
@@ -35,13 +35,13 @@ array-copy-out-step : tie.Need-array-copy-out-step Inv-loop μ-loop
 array-copy-out-step c = search needs
 
 play-requires : tie.Need-play-requires Inv-loop μ-loop
-play-requires c κs = search needs
+play-requires c κs = c .before .before .before .before .before .before .before .before .loop .inv .1
 
 add-i : tie.Need-add-i Inv-loop μ-loop
-add-i c = search needs
+add-i c = omega (arith, c .before .before .before .before .before .before .before .before .before .before .before .before .before .before .before .before .before .before .before .before .loop-test .taken)
 
 loop-less : tie.Need-loop-less Inv-loop μ-loop
-loop-less c = search needs
+loop-less c = omega (arith, c .before .before .before .before .before .before .before .before .before .before .before .before .before .before .before .before .before .before .before .before .loop-test .taken)
 
 loop-again : tie.Need-loop-again Inv-loop μ-loop
 loop-again c =
@@ -67,13 +67,13 @@ same-length-4 : tie.Need-same-length-4 Inv-loop μ-loop
 same-length-4 c = search needs
 
 same-length-5 : tie.Need-same-length-5 Inv-loop μ-loop
-same-length-5 c = search needs
+same-length-5 c = c .before .loop .inv .3
 
 same-length-6 : tie.Need-same-length-6 Inv-loop μ-loop
-same-length-6 c = search needs
+same-length-6 c = c .before .loop .inv .4
 
 returns : tie.Need-returns Inv-loop μ-loop
-returns c = search needs
+returns c = tt
 
 pub drive-spec : {M : Type 1} → statement M
 drive-spec =

@@ -5,7 +5,7 @@ use Rattle.tests_queue.proofs.push_step.Statement.{statement}
 use Rattle.tests_queue.proofs.push_step.Tie as tie
 
 show-push-requires : tie.Need-show-push-requires
-show-push-requires c κs = search needs
+show-push-requires c κs = tt
 
 push-requires : tie.Need-push-requires
 push-requires c κs = search needs
@@ -26,22 +26,22 @@ slice-aggregate-write-all : tie.Need-slice-aggregate-write-all
 slice-aggregate-write-all c = search needs
 
 write-all-requires : tie.Need-write-all-requires
-write-all-requires c κs = search needs
+write-all-requires c κs = tt
 
 show-requires-2 : tie.Need-show-requires-2
 show-requires-2 c κs = search needs
 
 same-length : tie.Need-same-length
-same-length c = search needs
+same-length c = c .before .before .before .before .before .before .before .before .before .before .before .before .before .before .before .stream .given
 
 same-length-2 : tie.Need-same-length-2
-same-length-2 c = search needs
+same-length-2 c = c .before .before .before .before .before .before .before .before .before .before .before .before .before .row .given
 
 same-length-3 : tie.Need-same-length-3
-same-length-3 c = search needs
+same-length-3 c = c .before .before .before .before .before .before .before .before .before .before .before .start .given
 
 same-length-4 : tie.Need-same-length-4
-same-length-4 c = search needs
+same-length-4 c = c .before .before .before .before .before .before .before .before .before .stop .given
 
 returns : tie.Need-returns
 returns c =
@@ -50,16 +50,16 @@ returns c =
     (at-push .push .ensures .done _ (at-pushed .pushed .given .1) .fair, at-push .push .ensures .done _ (at-pushed .pushed .given .1) .room)
 
 same-length-5 : tie.Need-same-length-5
-same-length-5 c = search needs
+same-length-5 c = c .before .before .before .before .before .before .before .before .before .before .before .before .before .before .before .before .stream .given
 
 same-length-6 : tie.Need-same-length-6
-same-length-6 c = search needs
+same-length-6 c = c .before .before .before .before .before .before .before .before .before .before .before .before .before .before .row .given
 
 same-length-7 : tie.Need-same-length-7
-same-length-7 c = search needs
+same-length-7 c = c .before .before .before .before .before .before .before .before .before .before .before .before .start .given
 
 same-length-8 : tie.Need-same-length-8
-same-length-8 c = search needs
+same-length-8 c = c .before .before .before .before .before .before .before .before .before .before .stop .given
 
 returns-2 : tie.Need-returns-2
 returns-2 c =

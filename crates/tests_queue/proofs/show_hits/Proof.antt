@@ -26,7 +26,7 @@ shared-slice-read-show-hit-2 : tie.Need-shared-slice-read-show-hit-2 Inv-loop μ
 shared-slice-read-show-hit-2 c = search needs
 
 show-hit-requires : tie.Need-show-hit-requires Inv-loop μ-loop
-show-hit-requires c κs = search needs
+show-hit-requires c κs = tt
 
 add-i : tie.Need-add-i Inv-loop μ-loop
 add-i c = search needs

@@ -41,7 +41,7 @@ shared-slice-read-show-record-4 : tie.Need-shared-slice-read-show-record-4 Inv-l
 shared-slice-read-show-record-4 c = search needs
 
 show-record-requires : tie.Need-show-record-requires Inv-loop μ-loop
-show-record-requires c κs = search needs
+show-record-requires c κs = tt
 
 add-k : tie.Need-add-k Inv-loop μ-loop
 add-k c = search needs
