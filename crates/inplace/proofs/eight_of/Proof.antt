@@ -1,31 +1,30 @@
 -- `eight_of` meets its contract.
-use borrow.Author.Needs.{needs}
 use Rattle.inplace.proofs.eight_of.Statement.{statement}
 use Rattle.inplace.proofs.eight_of.Tie as tie
 
 at-or-zero-requires : tie.Need-at-or-zero-requires
-at-or-zero-requires c κs = search needs
+at-or-zero-requires c κs = tt
 
 at-or-zero-requires-2 : tie.Need-at-or-zero-requires-2
-at-or-zero-requires-2 c κs = search needs
+at-or-zero-requires-2 c κs = tt
 
 at-or-zero-requires-3 : tie.Need-at-or-zero-requires-3
-at-or-zero-requires-3 c κs = search needs
+at-or-zero-requires-3 c κs = tt
 
 at-or-zero-requires-4 : tie.Need-at-or-zero-requires-4
-at-or-zero-requires-4 c κs = search needs
+at-or-zero-requires-4 c κs = tt
 
 at-or-zero-requires-5 : tie.Need-at-or-zero-requires-5
-at-or-zero-requires-5 c κs = search needs
+at-or-zero-requires-5 c κs = tt
 
 at-or-zero-requires-6 : tie.Need-at-or-zero-requires-6
-at-or-zero-requires-6 c κs = search needs
+at-or-zero-requires-6 c κs = tt
 
 at-or-zero-requires-7 : tie.Need-at-or-zero-requires-7
-at-or-zero-requires-7 c κs = search needs
+at-or-zero-requires-7 c κs = tt
 
 at-or-zero-requires-8 : tie.Need-at-or-zero-requires-8
-at-or-zero-requires-8 c κs = search needs
+at-or-zero-requires-8 c κs = tt
 
 returns : tie.Need-returns
 returns c = rw (c .before .before .before .before .before .before .before .at-or-zero .ensures, c .before .before .before .before .before .before .at-or-zero2 .ensures, c .before .before .before .before .before .at-or-zero3 .ensures, c .before .before .before .before .at-or-zero4 .ensures, c .before .before .before .at-or-zero5 .ensures, c .before .before .at-or-zero6 .ensures, c .before .at-or-zero7 .ensures, c .at-or-zero8 .ensures)

@@ -1,10 +1,9 @@
 -- `held_of` meets its contract.
-use borrow.Author.Needs.{needs}
 use Rattle.inplace.proofs.held.held_of.Statement.{statement}
 use Rattle.inplace.proofs.held.held_of.Tie as tie
 
 mark-of-requires : tie.Need-mark-of-requires
-mark-of-requires c κs = search needs
+mark-of-requires c κs = tt
 
 returns : tie.Need-returns
 returns c = rw (c .mark-of .ensures)

@@ -13,7 +13,7 @@ enum-known-t-2 : tie.Need-enum-known-t-2
 enum-known-t-2 c = search needs
 
 mark-of-end-requires : tie.Need-mark-of-end-requires
-mark-of-end-requires c κs = search needs
+mark-of-end-requires c κs = tt
 
 returns : tie.Need-returns
 returns c = rw (c .enum-told .given .1)

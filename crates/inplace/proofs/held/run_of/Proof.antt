@@ -1,10 +1,9 @@
 -- `run_of` meets its contract.
-use borrow.Author.Needs.{needs}
 use Rattle.inplace.proofs.held.run_of.Statement.{statement}
 use Rattle.inplace.proofs.held.run_of.Tie as tie
 
 stage-of-requires : tie.Need-stage-of-requires
-stage-of-requires c κs = search needs
+stage-of-requires c κs = tt
 
 returns : tie.Need-returns
 returns c = rw (c .stage-of .ensures)

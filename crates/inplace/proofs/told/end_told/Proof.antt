@@ -7,25 +7,25 @@ enum-known-e : tie.Need-enum-known-e
 enum-known-e c = search needs
 
 refused-told-requires : tie.Need-refused-told-requires
-refused-told-requires c κs = search needs
+refused-told-requires c κs = tt
 
 enum-known-e-2 : tie.Need-enum-known-e-2
 enum-known-e-2 c = search needs
 
 refused-told-requires-2 : tie.Need-refused-told-requires-2
-refused-told-requires-2 c κs = search needs
+refused-told-requires-2 c κs = tt
 
 enum-told : tie.Need-enum-told
 enum-told c = search needs
 
 refused-told-requires-3 : tie.Need-refused-told-requires-3
-refused-told-requires-3 c κs = search needs
+refused-told-requires-3 c κs = tt
 
 enum-told-2 : tie.Need-enum-told-2
 enum-told-2 c = search needs
 
 refused-told-requires-4 : tie.Need-refused-told-requires-4
-refused-told-requires-4 c κs = search needs
+refused-told-requires-4 c κs = tt
 
 returns : tie.Need-returns
 returns c = rw (c .before .before .e .given .1) (c .refused-told .ensures)

@@ -7,22 +7,22 @@ enum-known-a : tie.Need-enum-known-a
 enum-known-a c = search needs
 
 found-told-requires : tie.Need-found-told-requires
-found-told-requires c κs = search needs
+found-told-requires c κs = tt
 
 enum-known-a-2 : tie.Need-enum-known-a-2
 enum-known-a-2 c = search needs
 
 refusal-number-requires : tie.Need-refusal-number-requires
-refusal-number-requires c κs = search needs
+refusal-number-requires c κs = tt
 
 refused-told-requires : tie.Need-refused-told-requires
-refused-told-requires c κs = search needs
+refused-told-requires c κs = tt
 
 enum-known-a-3 : tie.Need-enum-known-a-3
 enum-known-a-3 c = search needs
 
 end-told-requires : tie.Need-end-told-requires
-end-told-requires c κs = search needs
+end-told-requires c κs = tt
 
 returns : tie.Need-returns
 returns c = rw (c .before .before .a .given .1) (c .found-told .ensures)
