@@ -116,3 +116,14 @@ module _ (a b : Choice) (base : Span) (starts stops : List ℕ) (c : Columns) wh
               let same : k ≡ length (layout (ruleOf a b) base (spans starts stops) .bases) = let q : n ≡ k = cc in omega (arith, counts .fragments-are) in
               rw (same, h) (reads-back a b base (spans starts stops) c);
         }
+
+-- the same of an answer given at a rule that is the pair's
+module _ (a b : Choice) (base : Span) (starts stops : List ℕ) (c : Columns) {rule : Rule} {r : Answer} (s : sizedOf (lensOf starts stops c) ≡ true) (p : rule ≡ ruleOf a b) (j : r ≡ judged rule base (spans starts stops) (length (c .present)) (length (c .pstart))) where
+  pub ready-at : {n m : ℕ} → r ≡ Written n m → Ready n m (layout rule base (spans starts stops)) c
+  ready-at w = rw p (ready a b base starts stops c s (rw p at (sym w ∙ j)))
+
+  pub written-at : {n m : ℕ} {c′ : Columns} → r ≡ Written n m → c′ ≡ holding (layout rule base (spans starts stops)) c → Parted a b base starts stops c (Written n m) c′
+  written-at w h = written a b base starts stops c s (rw p at (sym w ∙ j)) (rw p at h)
+
+  pub refused-at : {x : Refusal} → r ≡ Refused x → Parted a b base starts stops c (Refused x) c
+  refused-at {x} w = refused a b base starts stops c x (rw s (rw p at (sym w ∙ j)))

@@ -1,5 +1,5 @@
 -- `parts::fragments` meets its contract: a refusal leaves the columns; else `lay` wrote the layout, which reads back as the fragments. Assumes nothing.
-use Rattle.parts.proofs.Answers.{sized, ready, written, refused}
+use Rattle.parts.proofs.Answers.{sized, refused, ready-at, written-at, refused-at}
 use Rattle.parts.specs.Promise.{lensOf}
 use Rattle.parts.specs.Valid.{sizedOf}
 use Rattle.parts.specs.Layout.{columns}
@@ -40,10 +40,7 @@ lay-requires c κs =
     let a = c .before .before .before .before .before .before .before .before .before .before .before .before .before .before .before .before .before .before .before .before .before .before .before .args in
     let cs = (columns (now (a .present)) (now (a .bstart)) (now (a .bstop)) (now (a .from)) (now (a .to)) (now (a .pstart)) (now (a .pstop))) in
     let s : sizedOf (lensOf (now (a .starts)) (now (a .stops)) cs) ≡ true = sym (c .before .before .before .before .before .before .before .before .before .before .before .before .before .is-sized .ensures) ∙ not-false _ (c .before .before .before .before .before .before .before .before .before .before .before .before .if1 .left) in
-    let e = sym (c .before .before .before .before .before .before .before .before .answer .given .1) ∙ c .before .before .before .before .before .before .before .before .before .before .judge .ensures in (
-      sized (lensOf (now (a .starts)) (now (a .stops)) cs) s .records,
-      rw (c .before .before .before .before .before .before .before .before .before .before .before .rule-of .ensures) (ready (a .a) (a .b) (a .base) (now (a .starts)) (now (a .stops)) cs s (rw (c .before .before .before .before .before .before .before .before .before .before .before .rule-of .ensures) at e)),
-    )
+    (sized (lensOf (now (a .starts)) (now (a .stops)) cs) s .records, ready-at (a .a) (a .b) (a .base) (now (a .starts)) (now (a .stops)) cs s (c .before .before .before .before .before .before .before .before .before .before .before .rule-of .ensures) (c .before .before .before .before .before .before .before .before .before .before .judge .ensures) (c .before .before .before .before .before .before .before .before .answer .given .1))
 
 enum-known-answer-2 : tie.Need-enum-known-answer-2
 enum-known-answer-2 c = search needs
@@ -74,16 +71,14 @@ returns-2 c =
     let a = c .before .before .before .before .before .before .before .before .before .before .before .before .before .before .before .before .before .before .before .before .before .before .before .before .before .before .before .before .before .before .before .before .before .before .before .before .before .before .args in
     let cs = (columns (now (a .present)) (now (a .bstart)) (now (a .bstop)) (now (a .from)) (now (a .to)) (now (a .pstart)) (now (a .pstop))) in
     let s : sizedOf (lensOf (now (a .starts)) (now (a .stops)) cs) ≡ true = sym (c .before .before .before .before .before .before .before .before .before .before .before .before .before .before .before .before .before .before .before .before .before .before .before .before .before .before .before .before .is-sized .ensures) ∙ not-false _ (c .before .before .before .before .before .before .before .before .before .before .before .before .before .before .before .before .before .before .before .before .before .before .before .before .before .before .before .if1 .left) in
-    let e = sym (c .before .before .before .before .before .before .before .before .before .before .before .before .before .before .before .before .before .before .before .before .before .before .before .answer .given .1) ∙ c .before .before .before .before .before .before .before .before .before .before .before .before .before .before .before .before .before .before .before .before .before .before .before .before .before .judge .ensures in
-    written (a .a) (a .b) (a .base) (now (a .starts)) (now (a .stops)) cs s (rw (c .before .before .before .before .before .before .before .before .before .before .before .before .before .before .before .before .before .before .before .before .before .before .before .before .before .before .rule-of .ensures) at e) (rw (c .before .before .before .before .before .before .before .before .before .before .before .before .before .before .before .before .before .before .before .before .before .before .before .before .before .before .rule-of .ensures) at (c .before .before .before .before .before .before .before .before .before .before .before .before .before .before .lay .ensures))
+    written-at (a .a) (a .b) (a .base) (now (a .starts)) (now (a .stops)) cs s (c .before .before .before .before .before .before .before .before .before .before .before .before .before .before .before .before .before .before .before .before .before .before .before .before .before .before .rule-of .ensures) (c .before .before .before .before .before .before .before .before .before .before .before .before .before .before .before .before .before .before .before .before .before .before .before .before .before .judge .ensures) (c .before .before .before .before .before .before .before .before .before .before .before .before .before .before .before .before .before .before .before .before .before .before .before .answer .given .1) (c .before .before .before .before .before .before .before .before .before .before .before .before .before .before .lay .ensures)
 
 returns-3 : tie.Need-returns-3
 returns-3 c =
     let a = c .before .before .before .before .before .before .before .before .before .before .before .before .before .before .before .before .args in
     let cs = (columns (now (a .present)) (now (a .bstart)) (now (a .bstop)) (now (a .from)) (now (a .to)) (now (a .pstart)) (now (a .pstop))) in
     let s : sizedOf (lensOf (now (a .starts)) (now (a .stops)) cs) ≡ true = sym (c .before .before .before .before .before .before .is-sized .ensures) ∙ not-false _ (c .before .before .before .before .before .if1 .left) in
-    let e = sym (c .before .answer2 .given .1) ∙ c .before .before .before .judge .ensures in
-    refused (a .a) (a .b) (a .base) (now (a .starts)) (now (a .stops)) cs _ (rw s (rw (c .before .before .before .before .rule-of .ensures) at e))
+    refused-at (a .a) (a .b) (a .base) (now (a .starts)) (now (a .stops)) cs s (c .before .before .before .before .rule-of .ensures) (c .before .before .before .judge .ensures) (c .before .answer2 .given .1)
 
 pub fragments-spec : {M : Type 1} → statement M
 fragments-spec =
