@@ -18,13 +18,13 @@ enum-known-answer-2 : tie.Need-enum-known-answer-2
 enum-known-answer-2 c = search needs
 
 refusal-number-requires : tie.Need-refusal-number-requires
-refusal-number-requires c κs = search needs
+refusal-number-requires c κs = tt
 
 put-x-requires : tie.Need-put-x-requires
 put-x-requires c κs = search needs
 
 only-requires : tie.Need-only-requires
-only-requires c κs = search needs
+only-requires c κs = tt
 
 enum-known-answer-3 : tie.Need-enum-known-answer-3
 enum-known-answer-3 c = search needs
@@ -33,22 +33,22 @@ put-end-requires : tie.Need-put-end-requires
 put-end-requires c κs = search needs
 
 only-requires-2 : tie.Need-only-requires-2
-only-requires-2 c κs = search needs
+only-requires-2 c κs = tt
 
 same-length : tie.Need-same-length
-same-length c = search needs
+same-length c = c .before .out .given
 
 returns-2 : tie.Need-returns-2
 returns-2 c = rw (c .before .before .before .before .before .answer .given .1) (c .before .before .put-found .ensures)
 
 same-length-2 : tie.Need-same-length-2
-same-length-2 c = search needs
+same-length-2 c = c .before .before .out2 .given
 
 returns-3 : tie.Need-returns-3
 returns-3 c = rw (c .before .before .before .before .before .before .before .answer2 .given .1, c .only .ensures) (lays-only _ (omega arith) (rw (c .before .before .before .before .refusal-number .ensures) at (c .before .before .before .put-x .ensures)))
 
 same-length-3 : tie.Need-same-length-3
-same-length-3 c = search needs
+same-length-3 c = c .before .before .out3 .given
 
 returns-4 : tie.Need-returns-4
 returns-4 c = rw (c .before .before .before .before .before .before .answer3 .given .1, c .only2 .ensures) (lays-only _ (omega arith) (c .before .before .before .put-end .ensures))

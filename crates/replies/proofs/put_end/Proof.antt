@@ -28,25 +28,25 @@ put-x-requires-2 : tie.Need-put-x-requires-2
 put-x-requires-2 c κs = search needs
 
 same-length : tie.Need-same-length
-same-length c = search needs
+same-length c = c .before .out .given
 
 returns : tie.Need-returns
 returns c = rw (c .before .before .before .before .before .e .given .1) (c .before .before .put-x-row .ensures)
 
 same-length-2 : tie.Need-same-length-2
-same-length-2 c = search needs
+same-length-2 c = c .before .out2 .given
 
 returns-2 : tie.Need-returns-2
 returns-2 c = rw (c .before .before .before .before .before .e2 .given .1) (c .before .before .put-x-row2 .ensures)
 
 same-length-3 : tie.Need-same-length-3
-same-length-3 c = search needs
+same-length-3 c = c .before .out3 .given
 
 returns-3 : tie.Need-returns-3
 returns-3 c = rw (c .before .before .before .before .enum-told .given .1) (c .before .before .put-x .ensures)
 
 same-length-4 : tie.Need-same-length-4
-same-length-4 c = search needs
+same-length-4 c = c .before .out4 .given
 
 returns-4 : tie.Need-returns-4
 returns-4 c = rw (c .before .before .before .before .enum-told2 .given .1) (c .before .before .put-x2 .ensures)

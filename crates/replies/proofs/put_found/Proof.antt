@@ -1,4 +1,5 @@
 -- `replies::put_found` meets its contract: one line, and the records' behind it. Assumes nothing.
+use mathlib.Core.Path.{_∙_}
 use Rattle.lines.proofs.Putting.{puts-inside}
 use Rattle.lines.proofs.LaidLaws.{lays-more, lays-stop}
 use borrow.Author.Needs.{needs}
@@ -18,13 +19,13 @@ enum-told : tie.Need-enum-told
 enum-told c = search needs
 
 same-length : tie.Need-same-length
-same-length c = search needs
+same-length c = c .before .out2 .given ∙ c .before .before .before .before .before .before .before .before .out .given
 
 returns : tie.Need-returns
 returns c = lays-more _ (rw (c .before .before .before .before .before .put .given .1) at (c .before .before .before .before .before .before .before .before .before .put-b .ensures)) (c .before .before .put-records .ensures)
 
 same-length-2 : tie.Need-same-length-2
-same-length-2 c = search needs
+same-length-2 c = c .before .before .before .out .given
 
 returns-2 : tie.Need-returns-2
 returns-2 c = lays-stop _ (c .before .before .before .before .before .before .before .before .before .before .before .before .before .pre .0) (rw (c .enum-told .given .1) at (c .before .before .before .before .put-b .ensures))

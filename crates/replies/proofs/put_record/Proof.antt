@@ -5,19 +5,19 @@ use Rattle.replies.proofs.put_record.Statement.{statement}
 use Rattle.replies.proofs.put_record.Tie as tie
 
 first-of-requires : tie.Need-first-of-requires
-first-of-requires c κs = search needs
+first-of-requires c κs = tt
 
 value-at-requires : tie.Need-value-at-requires
-value-at-requires c κs = search needs
+value-at-requires c κs = tt
 
 value-at-requires-2 : tie.Need-value-at-requires-2
-value-at-requires-2 c κs = search needs
+value-at-requires-2 c κs = tt
 
 put-r-requires : tie.Need-put-r-requires
 put-r-requires c κs = search needs
 
 same-length : tie.Need-same-length
-same-length c = search needs
+same-length c = c .before .out .given
 
 returns : tie.Need-returns
 returns c =
