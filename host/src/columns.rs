@@ -40,8 +40,7 @@ impl Rows {
 
     /// All rows in their order.
     pub fn iter(&self) -> impl Iterator<Item = Base> + '_ {
-        let row = |((&chrom, &start), &stop)| Base { chrom, start, stop };
-        self.chrom.iter().zip(&self.start).zip(&self.stop).map(row)
+        self.some(0, self.len()).iter()
     }
 
     /// The rows of a whole text.
@@ -78,6 +77,21 @@ impl Rows {
 
     fn columns(&mut self) -> [&mut Vec<u64>; 3] {
         [&mut self.chrom, &mut self.start, &mut self.stop]
+    }
+
+    /// The rows from `from` on, `most` at most.
+    pub(crate) fn some(&self, from: usize, most: usize) -> Cols<'_> {
+        let from = from.min(self.len());
+        let to = self.len().min(from.saturating_add(most));
+        Cols { chrom: &self.chrom[from..to], start: &self.start[from..to], stop: &self.stop[from..to] }
+    }
+}
+
+impl<'a> Cols<'a> {
+    /// All rows in their order.
+    pub(crate) fn iter(self) -> impl Iterator<Item = Base> + 'a {
+        let row = |((&chrom, &start), &stop)| Base { chrom, start, stop };
+        self.chrom.iter().zip(self.start).zip(self.stop).map(row)
     }
 }
 

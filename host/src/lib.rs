@@ -1,7 +1,8 @@
 //! Cedarlash for Rust programs: at scale, a run over columns; within the program's limits, all texts in, one listing out.
 //!
 //! At scale (feature `inplace`): a [`Genome`] is read, then the streams into [`Columns`]; [`Sweep::begin`] begins a run and
-//! [`Sweep::give`] gives it a base; [`Sweep::answers`] gives all bases of a source. [`lines`] writes the listing's lines.
+//! [`Sweep::give`] gives it a base, [`Sweep::give_all`] many at once; [`Sweep::answers`] gives all bases of a source. [`lines`]
+//! writes the listing's lines.
 //!
 //! Within the limits (feature `library`): `list` and `list_ends` call the proved listing; [`paper`] is a second
 //! implementation, written from the scope document (01) alone, against which the program `differential` holds the first.
@@ -28,7 +29,7 @@ pub use columns::{Base, Columns, Rows};
 pub use genome::Genome;
 pub use refusal::{words, BadText, ReadError, Refusal};
 #[cfg(feature = "inplace")]
-pub use sweep::{Answer, Answers, Bases, End, LeavingOut, Place, Records, Sweep, MOST_ROOM};
+pub use sweep::{Answer, Answers, Bases, Batch, End, LeavingOut, Place, Records, Sweep, MOST_ROOM};
 
 /// What a call gives besides the bytes it wrote.
 #[repr(C)]

@@ -38,6 +38,7 @@ mod listing {
 #[cfg(feature = "inplace")]
 mod inplace {
     use crate::Base;
+    use std::mem::offset_of;
 
     /// How a run stands, in numbers.
     #[repr(C)]
@@ -104,6 +105,24 @@ mod inplace {
         pub stop: u64,
     }
 
+    /// What bases came to that were given together: how many were answered, how many records these have together, and what
+    /// the next one got, where it was given and got no records; else that is all 0.
+    #[derive(Clone, Copy, Debug, PartialEq, Eq)]
+    pub struct Passed {
+        pub bases: usize,
+        pub records: usize,
+        pub last: Told,
+    }
+
+    /// The same as the archive gives it, with the run after them.
+    #[repr(C)]
+    struct Swept {
+        run: Held,
+        bases: usize,
+        records: usize,
+        last: Told,
+    }
+
     /// How a reading ended: the refusal's number or 0, and the rows ahead of the end.
     #[repr(C)]
     #[derive(Clone, Copy, Debug, PartialEq, Eq)]
@@ -115,6 +134,9 @@ mod inplace {
     // The layouts that the archive's own `#[repr(C)]` structs have.
     const _: () = assert!(size_of::<Held>() == 536 && align_of::<Held>() == 8);
     const _: () = assert!(size_of::<Told>() == 56 && size_of::<Tally>() == 16 && size_of::<Mark>() == 32);
+    const _: () = assert!(size_of::<Swept>() == 608 && align_of::<Swept>() == 8);
+    const _: () = assert!(offset_of!(Swept, run) == 0 && offset_of!(Swept, bases) == 536);
+    const _: () = assert!(offset_of!(Swept, records) == 544 && offset_of!(Swept, last) == 552);
     const _: () = assert!(size_of::<usize>() == 8);
 
     // Here and below a slice's two words stand on one line.
@@ -146,6 +168,23 @@ mod inplace {
             streams: *mut u64, streams_len: usize,
             rows: *mut u64, rows_len: usize,
         ) -> Told;
+        fn cedarlash_give_all(
+            run: Held,
+            bchrom: *const u64, bchrom_len: usize,
+            bstart: *const u64, bstart_len: usize,
+            bstop: *const u64, bstop_len: usize,
+            chrom: *const u64, chrom_len: usize,
+            start: *const u64, start_len: usize,
+            stop: *const u64, stop_len: usize,
+            lengths: *const u64, lengths_len: usize,
+            qstream: *mut u64, qstream_len: usize,
+            qrow: *mut u64, qrow_len: usize,
+            qstart: *mut u64, qstart_len: usize,
+            qstop: *mut u64, qstop_len: usize,
+            streams: *mut u64, streams_len: usize,
+            rows: *mut u64, rows_len: usize,
+            counts: *mut usize, counts_len: usize,
+        ) -> Swept;
         fn cedarlash_read_list(
             text: *const u8, text_len: usize,
             from: *mut usize, from_len: usize,
@@ -263,6 +302,17 @@ mod inplace {
         }
     }
 
+    /// Stops unless what a base is given with is of one length each, and there are as many answer rows as the room.
+    fn assert_even(cols: Cols, queue: &Queue, streams: &[u64], rows: &[u64]) {
+        let room = queue.stream.len();
+        assert!(cols.chrom.len() == cols.start.len() && cols.chrom.len() == cols.stop.len(), "columns of one length");
+        assert!(
+            queue.row.len() == room && queue.start.len() == room && queue.stop.len() == room,
+            "queue columns of one length"
+        );
+        assert!(streams.len() == rows.len() && rows.len() >= room, "answer rows as many as the room");
+    }
+
     /// Gives a base to the run. Its records stand at the front of `streams` and `rows` afterwards.
     #[rustfmt::skip]
     pub fn give(
@@ -274,13 +324,7 @@ mod inplace {
         streams: &mut [u64],
         rows: &mut [u64],
     ) -> Told {
-        let room = queue.stream.len();
-        assert!(cols.chrom.len() == cols.start.len() && cols.chrom.len() == cols.stop.len(), "columns of one length");
-        assert!(
-            queue.row.len() == room && queue.start.len() == room && queue.stop.len() == room,
-            "queue columns of one length"
-        );
-        assert!(streams.len() == rows.len() && rows.len() >= room, "answer rows as many as the room");
+        assert_even(cols, &queue, streams, rows);
         // SAFETY: as said at the head of this file; `held`, the queue's and the answers' columns are borrowed mutably, so
         // they share no byte with each other or with what is read. Every content of `held` is a run to the archive.
         unsafe {
@@ -299,5 +343,51 @@ mod inplace {
                 rows.as_mut_ptr(), rows.len(),
             )
         }
+    }
+
+    /// Gives bases to the run, one after the other, until one gets no records or fewer answer rows are left than the room.
+    /// The records stand at the front of `streams` and `rows` afterwards, those of one base behind those of the base ahead, and
+    /// the counts at the front of `counts`, which has a place for each base.
+    #[rustfmt::skip]
+    #[allow(clippy::too_many_arguments)]
+    pub fn give_all(
+        held: &mut Held,
+        bases: Cols,
+        cols: Cols,
+        lengths: &[u64],
+        queue: Queue,
+        streams: &mut [u64],
+        rows: &mut [u64],
+        counts: &mut [usize],
+    ) -> Passed {
+        let len = bases.chrom.len();
+        assert!(bases.start.len() == len && bases.stop.len() == len, "columns of one length");
+        assert!(counts.len() >= len, "a count for each base");
+        assert_even(cols, &queue, streams, rows);
+        // SAFETY: as said at the head of this file; the queue's, the answers' and the counts' columns are borrowed mutably, so
+        // they share no byte with each other or with what is read. The run goes in as a copy and comes out as one, both in
+        // the archive's layout and by the C convention; every content of it is a run to the archive, and of the one that it
+        // gives back each `ended` is 0 or 1.
+        let swept = unsafe {
+            cedarlash_give_all(
+                *held,
+                bases.chrom.as_ptr(), bases.chrom.len(),
+                bases.start.as_ptr(), bases.start.len(),
+                bases.stop.as_ptr(), bases.stop.len(),
+                cols.chrom.as_ptr(), cols.chrom.len(),
+                cols.start.as_ptr(), cols.start.len(),
+                cols.stop.as_ptr(), cols.stop.len(),
+                lengths.as_ptr(), lengths.len(),
+                queue.stream.as_mut_ptr(), queue.stream.len(),
+                queue.row.as_mut_ptr(), queue.row.len(),
+                queue.start.as_mut_ptr(), queue.start.len(),
+                queue.stop.as_mut_ptr(), queue.stop.len(),
+                streams.as_mut_ptr(), streams.len(),
+                rows.as_mut_ptr(), rows.len(),
+                counts.as_mut_ptr(), counts.len(),
+            )
+        };
+        *held = swept.run;
+        Passed { bases: swept.bases, records: swept.records, last: swept.last }
     }
 }

@@ -1,12 +1,18 @@
-//! A run: one base in, its records and an offer out.
+//! A run: one base in, its records and an offer out; or many bases at once.
 
-use crate::columns::{Base, Columns};
+use crate::columns::{Base, Columns, Rows};
 use crate::genome::Genome;
-use crate::raw::{self, Held, Queue};
+use crate::raw::{self, Cols, Held, Queue, Told};
 use crate::refusal::{words, Refusal};
+use std::convert::Infallible;
 
 /// The most records that can wait: the largest room.
 pub const MOST_ROOM: usize = 65_536;
+
+/// How many bases are given at once at most, and how many answer rows there are for them beyond the room. A run is copied in and
+/// out once for so many bases.
+const BATCH: usize = 256;
+const SPARE: usize = 4_096;
 
 /// A place: it permits leaving out the following bases on earlier chromosomes, and on its own those with stop at or below
 /// it. It holds until the next offer.
@@ -71,6 +77,13 @@ impl<'a> Records<'a> {
     pub fn iter(&self) -> impl Iterator<Item = (usize, usize)> + 'a {
         self.streams.iter().zip(self.rows).map(|(&stream, &row)| (stream as usize, row as usize))
     }
+
+    /// Takes the first `count` of them away, and gives these.
+    fn take(&mut self, count: usize) -> Records<'a> {
+        let ((streams, s), (rows, r)) = (self.streams.split_at(count), self.rows.split_at(count));
+        *self = Records { streams: s, rows: r };
+        Records { streams, rows }
+    }
 }
 
 impl Answer<Records<'_>> {
@@ -84,15 +97,31 @@ impl Answer<Records<'_>> {
     }
 }
 
-/// A run over streams in columns. It owns the queue's memory and the answer rows, 48 bytes for each record that may wait;
-/// the columns are only borrowed, so that they cannot change while it goes on.
+/// What a base got that got no records; nothing if it got some.
+fn unfound<R>(told: Told) -> Option<Answer<R>> {
+    match told.refusal {
+        0 => None,
+        number @ (7 | 8) => {
+            Some(Answer::Ended(End { number, record: Some((told.stream as usize, told.row as usize)) }))
+        }
+        number @ (9 | 10) => Some(Answer::Ended(End { number, record: None })),
+        number => Some(Answer::Refused(number)),
+    }
+}
+
+/// A run over streams in columns. It owns the queue's memory and the answer rows, 48 bytes for each record that may wait, and
+/// 66 KiB more for batches ([`Sweep::give_all`]), all of it allocated when it begins; the columns are only borrowed, so that
+/// they cannot change while it goes on.
 pub struct Sweep<'a> {
     genome: &'a Genome,
     columns: &'a Columns,
     held: Held,
     queue: [Vec<u64>; 4],
+    /// The answer rows: as many as the room, and some to spare for the bases of a batch.
     streams: Vec<u64>,
     rows: Vec<u64>,
+    /// How many records each base of a batch has.
+    counts: Vec<usize>,
 }
 
 impl<'a> Sweep<'a> {
@@ -106,7 +135,8 @@ impl<'a> Sweep<'a> {
             0 => {
                 let column = || vec![0; room];
                 let queue = [column(), column(), column(), column()];
-                Ok(Sweep { genome, columns, held, queue, streams: column(), rows: column() })
+                let (streams, rows, counts) = (Vec::new(), Vec::new(), vec![0; BATCH]);
+                Ok(Sweep { genome, columns, held, queue, streams, rows, counts }.with_spare(SPARE))
             }
             number => Err(Refusal(number)),
         }
@@ -118,15 +148,37 @@ impl<'a> Sweep<'a> {
         let queue = Queue { stream, row, start, stop };
         let (cols, lengths) = (self.columns.lent(), self.genome.lengths());
         let told = raw::give(&mut self.held, base, cols, lengths, queue, &mut self.streams, &mut self.rows);
-        match told.refusal {
-            0 => Answer::Found {
-                records: Records { streams: &self.streams[..told.count], rows: &self.rows[..told.count] },
-                offer: (told.offered != 0).then_some(Place { chrom: told.chrom, stop: told.stop }),
-            },
-            number @ (7 | 8) => Answer::Ended(End { number, record: Some((told.stream as usize, told.row as usize)) }),
-            number @ (9 | 10) => Answer::Ended(End { number, record: None }),
-            number => Answer::Refused(number),
+        unfound(told).unwrap_or_else(|| Answer::Found {
+            records: Records { streams: &self.streams[..told.count], rows: &self.rows[..told.count] },
+            offer: (told.offered != 0).then_some(Place { chrom: told.chrom, stop: told.stop }),
+        })
+    }
+
+    /// Gives the bases of `bases` from row `from` on, one after the other, each as [`Sweep::give`] would but faster: at most
+    /// 256 of them, until one gets no records (it is refused, or the run ends) or the answer rows might not do for the next.
+    /// At least one is given if there is one. No offers are told: where bases are to be left out, they are given one by one.
+    pub fn give_all<'b>(&'b mut self, bases: &'b Rows, from: usize) -> Batch<'b> {
+        let [stream, row, start, stop] = &mut self.queue;
+        let queue = Queue { stream, row, start, stop };
+        let (cols, lengths) = (self.columns.lent(), self.genome.lengths());
+        let bases = bases.some(from, self.counts.len());
+        let (streams, rows, counts) = (&mut self.streams, &mut self.rows, &mut self.counts);
+        let passed = raw::give_all(&mut self.held, bases, cols, lengths, queue, streams, rows, counts);
+        Batch {
+            from,
+            bases,
+            counts: &self.counts[..passed.bases],
+            records: Records { streams: &self.streams[..passed.records], rows: &self.rows[..passed.records] },
+            stopped: unfound(passed.last),
         }
+    }
+
+    /// The same run with so many answer rows beyond the room, 16 bytes each, in place of 4,096. A batch ends when fewer than
+    /// the room are left, so with more of them bases that have many records get along in fewer calls; the answers are the same.
+    pub fn with_spare(mut self, rows: usize) -> Self {
+        let len = self.queue[0].len() + rows;
+        (self.streams, self.rows) = (vec![0; len], vec![0; len]);
+        self
     }
 
     /// The list of this run.
@@ -142,6 +194,39 @@ impl<'a> Sweep<'a> {
     /// The answers to all bases of a source.
     pub fn answers<B: Bases>(self, bases: B) -> Answers<'a, B> {
         Answers { sweep: self, bases, place: None, over: false }
+    }
+}
+
+/// What bases got that were given together: the records of those that were answered, and what stopped them, if anything did.
+pub struct Batch<'a> {
+    from: usize,
+    bases: Cols<'a>,
+    counts: &'a [usize],
+    records: Records<'a>,
+    /// What the base behind the answered ones got, if it was given: it was refused or the run has ended, so it is never `Found`.
+    pub stopped: Option<Answer<Infallible>>,
+}
+
+impl<'a> Batch<'a> {
+    /// How many bases were answered.
+    pub fn len(&self) -> usize {
+        self.counts.len()
+    }
+
+    /// Whether none was.
+    pub fn is_empty(&self) -> bool {
+        self.counts.is_empty()
+    }
+
+    /// Each base that was answered and its records, in merged order.
+    pub fn iter(&self) -> impl Iterator<Item = (Base, Records<'a>)> {
+        let mut left = self.records;
+        self.bases.iter().zip(self.counts).map(move |(base, &count)| (base, left.take(count)))
+    }
+
+    /// The row behind the last base that got something, records or not: the next batch goes on from there.
+    pub fn behind(&self) -> usize {
+        self.from + self.counts.len() + usize::from(self.stopped.is_some())
     }
 }
 

@@ -3,7 +3,8 @@
 use crate::progress::Progress;
 use crate::usage::{self, Job};
 use cedarlash::blocks::{Block, Blocks};
-use cedarlash::{lines, words, Answer, BadText, Base, Columns, End, Genome, ReadError, Rows, Sweep};
+use cedarlash::{lines, words, Answer, BadText, Base, Columns, End, Genome, ReadError, Records, Rows, Sweep};
+use std::convert::Infallible;
 use std::ffi::OsStr;
 use std::fs::File;
 use std::io::{self, ErrorKind, Read, Write};
@@ -118,6 +119,15 @@ pub fn run(job: &Job) -> Result<bool, Trouble> {
     walk.all(bases)
 }
 
+/// The lines of a base and its records.
+fn answered(out: &mut Vec<u8>, genome: &Genome, columns: &Columns, base: Base, records: Records) {
+    lines::base(out, genome.name(base.chrom).unwrap_or_default(), base.start, base.stop, records.len());
+    for (stream, row) in records.iter() {
+        let at = columns.get(stream, row).expect("a record of an answer is a row of the columns");
+        lines::record(out, stream, row, at.start, at.stop);
+    }
+}
+
 /// The bases of a job on their way through the run.
 struct Walk<'a> {
     job: &'a Job,
@@ -156,16 +166,23 @@ impl Walk<'_> {
         }
     }
 
-    /// Gives the bases of a block; the end, with the line of its base, if the run has ended.
+    /// Gives the bases of a block, many at once; the end, with the line of its base, if the run has ended.
     fn block(&mut self, rows: &Rows, block: Block) -> Result<Option<(u64, End)>, Trouble> {
-        for (k, base) in rows.iter().enumerate() {
-            match self.base(base) {
-                Answer::Found { .. } => {}
-                Answer::Refused(number) => {
+        let mut next = 0;
+        while next < rows.len() {
+            let (behind, stopped) = self.batch(rows, next)?;
+            next = behind;
+            match stopped {
+                None => continue,
+                Some(Answer::Refused(number)) => {
+                    lines::refused(&mut self.out.lines, number, self.row, None);
                     self.refused += 1;
-                    self.first.get_or_insert_with(|| (block.line_of(k), number));
+                    self.first.get_or_insert_with(|| (block.line_of(behind - 1), number));
                 }
-                Answer::Ended(end) => return Ok(Some((block.line_of(k), end))),
+                Some(Answer::Ended(end)) => {
+                    lines::refused(&mut self.out.lines, end.number, self.row, end.record);
+                    return Ok(Some((block.line_of(behind - 1), end)));
+                }
             }
             self.row += 1;
             self.out.relieve()?;
@@ -173,28 +190,17 @@ impl Walk<'_> {
         Ok(None)
     }
 
-    /// Gives a base and writes its lines.
-    fn base(&mut self, base: Base) -> Answer<()> {
+    /// Gives bases from this row on and writes the lines of those that are answered; where to go on, and what the one ahead of
+    /// that got, if not records.
+    fn batch(&mut self, rows: &Rows, from: usize) -> Result<(usize, Option<Answer<Infallible>>), Trouble> {
         let (genome, columns) = (self.sweep.genome(), self.sweep.columns());
-        let out = &mut self.out.lines;
-        match self.sweep.give(base) {
-            Answer::Found { records, offer } => {
-                lines::base(out, genome.name(base.chrom).unwrap_or_default(), base.start, base.stop, records.len());
-                for (stream, row) in records.iter() {
-                    let at = columns.get(stream, row).expect("a record of an answer is a row of the columns");
-                    lines::record(out, stream, row, at.start, at.stop);
-                }
-                Answer::Found { records: (), offer }
-            }
-            Answer::Refused(number) => {
-                lines::refused(out, number, self.row, None);
-                Answer::Refused(number)
-            }
-            Answer::Ended(end) => {
-                lines::refused(out, end.number, self.row, end.record);
-                Answer::Ended(end)
-            }
+        let batch = self.sweep.give_all(rows, from);
+        for (base, records) in batch.iter() {
+            answered(&mut self.out.lines, genome, columns, base, records);
+            self.row += 1;
+            self.out.relieve()?;
         }
+        Ok((batch.behind(), batch.stopped))
     }
 
     /// All bases were given: says how many were refused.
