@@ -1,5 +1,6 @@
 //! Whole listings: by the API and by the command, against the witness, and past its limits against a plain search.
 
+use crate::batches;
 use crate::files::{tabs, Folder};
 use crate::make;
 use crate::rng::Rng;
@@ -156,6 +157,62 @@ fn random_jobs_by_the_command() {
         met[status as usize] += 1;
     }
     assert!(met.iter().all(|&n| n > 30), "every status is met: {met:?}");
+}
+
+/// The texts of a job of hundreds of bases, with comments and empty lines among them and now and then a line that can't be
+/// read.
+fn long_job(rng: &mut Rng) -> Vec<Vec<u8>> {
+    let job = batches::job(rng, 900);
+    let bad = rng.one_in(4).then(|| rng.below(job.bases.len() + 1));
+    let mut texts = vec![batches::LIST.into()];
+    for (k, rows) in [job.bases].iter().chain(&job.streams).enumerate() {
+        let mut text = String::new();
+        for (n, r) in rows.iter().enumerate() {
+            let name = ["a", "b", "c", "d", "e"][r.chrom as usize];
+            text += if rng.one_in(20) { "\n#\n" } else { "" };
+            text += if k == 0 && bad == Some(n) { "a\t1\tx\n" } else { "" };
+            text += &format!("{name}\t{}\t{}\n", r.start, r.stop);
+        }
+        texts.push(text.into());
+    }
+    texts
+}
+
+/// The line (from 1) of the base that the command speaks of: the last X where the run ended or a line is bad, else the first.
+fn blamed(texts: &[Vec<u8>], listing: &[u8]) -> Option<usize> {
+    let listing = String::from_utf8_lossy(listing);
+    let mut marks = listing.lines().filter(|l| l.starts_with('X')).map(|l| l.split('\t').skip(1).collect::<Vec<_>>());
+    let (first, last) = (marks.next()?, marks.next_back());
+    let row = match last.as_ref().unwrap_or(&first)[..] {
+        ["11", "1", row] => row,
+        ["7" | "8" | "9", row, ..] => row,
+        _ => first[1],
+    };
+    let text = String::from_utf8_lossy(&texts[1]);
+    let mut rows = text.lines().enumerate().filter(|(_, l)| !l.is_empty() && !l.starts_with('#'));
+    rows.nth(row.parse().unwrap()).map(|(n, _)| n + 1)
+}
+
+/// Bases refused, bad lines and ends far into a block, where bases go in batches.
+#[test]
+fn long_jobs_by_the_command() {
+    let mut rng = Rng(17);
+    let folder = Folder::new();
+    let mut met = [0; 3];
+    for _ in 0..150 {
+        let texts = long_job(&mut rng);
+        let mut words = folder.job(&texts);
+        words.extend(["-q".to_string(), "1024".to_string()]);
+        let (status, out, said) = folder.run(&words);
+        let (wanted, listing) = wanted(&texts);
+        assert!(out.as_bytes() == listing && status == wanted, "{}", show(&texts));
+        match blamed(&texts, &listing) {
+            None => assert_eq!((status, said.as_str()), (0, "")),
+            Some(line) => assert!(said.contains(&format!(" a: line {line}")), "{line}: {said}"),
+        }
+        met[status as usize] += 1;
+    }
+    assert!(met.iter().all(|&n| n > 10), "every status is met: {met:?}");
 }
 
 /// Sorted rows of a large job.
