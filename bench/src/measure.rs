@@ -29,6 +29,9 @@ struct Bar {
     reached: Vec<Reached>,
 }
 
+/// The ratios that the bars speak of; ours is by batches.
+const RATIOS: [&str; 2] = ["ours / plain", "the Rust / ours"];
+
 /// The bars as a table; time decides.
 fn told(bars: &[Bar]) -> String {
     let mut table = Table::new(&["bar", "input", "by time", "by instructions", "by time it is"]);
@@ -80,18 +83,18 @@ impl Plan<'_> {
     }
 
     fn sweeps(&self, slower: &mut Bar, faster: &mut Bar) -> String {
-        let head = ["input", "found", "ours, ns a record", "plain", "the Rust", "ours / plain", "the Rust / ours"];
-        let mut table = Table::new(&head);
+        let cost = ["ours, ns a record", "ours, a base a call", "plain", "the Rust"];
+        let mut table = Table::new(&[&["input", "found"][..], &cost, &RATIOS].concat());
         for recipe in RECIPES {
             let bench = Bench::new(recipe.make(self.size));
             let found = bench.check();
-            let [ours, plain, rust] = self.times(&bench, Who::ALL);
+            let [ours, single, plain, rust] = self.times(&bench, Who::ALL);
             let ratios = [ours.over(&plain).median(), rust.over(&ours).median()];
             for (bar, time) in [&mut *slower, &mut *faster].into_iter().zip(ratios).filter(|_| recipe.is_barred()) {
                 bar.reached.push(Reached { input: recipe.name, time, instructions: None });
             }
             let head = [recipe.name.to_string(), commas(found)];
-            let cells = [ours.told(1), plain.told(1), rust.told(1)];
+            let cells = [ours, single, plain, rust].map(|r| r.told(1));
             table.line(head.into_iter().chain(cells).chain(ratios.map(|r| format!("{r:.2}"))));
         }
         table.text()
@@ -104,15 +107,15 @@ impl Plan<'_> {
     }
 
     fn counts(&self, slower: &mut Bar, faster: &mut Bar) -> String {
-        let head = ["input", "ours, instructions a record", "plain", "the Rust", "ours / plain", "the Rust / ours"];
-        let mut table = Table::new(&head);
+        let cost = ["ours, instructions a record", "ours, a base a call", "plain", "the Rust"];
+        let mut table = Table::new(&[&["input"][..], &cost, &RATIOS].concat());
         for recipe in RECIPES {
-            let [ours, plain, rust] = Who::ALL.map(|who| self.count(who, recipe, 1));
+            let [ours, single, plain, rust] = Who::ALL.map(|who| self.count(who, recipe, 1));
             let ratios = [ours / plain, rust / ours];
             for (bar, ratio) in [&mut *slower, &mut *faster].into_iter().zip(ratios) {
                 bar.reached.iter_mut().filter(|r| r.input == recipe.name).for_each(|r| r.instructions = Some(ratio));
             }
-            let cells = [ours, plain, rust].map(|n| format!("{n:.1}"));
+            let cells = [ours, single, plain, rust].map(|n| format!("{n:.1}"));
             let ratios = ratios.map(|r| format!("{r:.2}"));
             table.line([recipe.name.to_string()].into_iter().chain(cells).chain(ratios));
         }

@@ -1,4 +1,5 @@
-//! Part (a): the sweep alone, by each of three; that they find the same; what a run of each costs.
+//! Part (a): the sweep alone, ours by batches and a base a call, and two others; that all find the same; what a run of each
+//! costs.
 
 use crate::chrom_ordering::Chromosome;
 use crate::clock::thread_ns;
@@ -6,7 +7,7 @@ use crate::input::{list, Input, Row};
 use crate::intersection::IntersectionIterator;
 use crate::plain::Plain;
 use crate::rust;
-use cedarlash::{Answer, Columns, Genome, Records, Sweep};
+use cedarlash::{Answer, Columns, Genome, Records, Rows, Sweep};
 use hashbrown::HashMap;
 use std::hint::black_box;
 
@@ -15,17 +16,21 @@ const ROOM: usize = 1_024;
 
 #[derive(Clone, Copy, PartialEq)]
 pub enum Who {
+    /// Many bases a call.
     Ours,
+    /// Ours, a base a call.
+    Single,
     Plain,
     Rust,
 }
 
 impl Who {
-    pub const ALL: [Who; 3] = [Who::Ours, Who::Plain, Who::Rust];
+    pub const ALL: [Who; 4] = [Who::Ours, Who::Single, Who::Plain, Who::Rust];
 
     pub fn name(self) -> &'static str {
         match self {
             Who::Ours => "ours",
+            Who::Single => "single",
             Who::Plain => "plain",
             Who::Rust => "rust",
         }
@@ -36,17 +41,19 @@ impl Who {
     }
 }
 
-/// An input as each of the three takes it.
+/// An input as each of them takes it.
 pub struct Bench {
     pub input: Input,
     genome: Genome,
     columns: Columns,
+    bases: Rows,
     order: HashMap<String, Chromosome>,
 }
 
 /// A run that has begun, with the bases that it will be given.
 enum Job<'a> {
-    Ours(Sweep<'a>, &'a [Row]),
+    Ours(Sweep<'a>, &'a Rows),
+    Single(Sweep<'a>, &'a [Row]),
     Plain(Plain<'a>, &'a [Row]),
     Rust(IntersectionIterator<'a>),
 }
@@ -64,6 +71,15 @@ fn bench_measured(job: Job) -> usize {
     let mut n = 0;
     match job {
         Job::Ours(mut run, bases) => {
+            let mut from = 0;
+            while from < bases.len() {
+                let batch = run.give_all(bases, from);
+                assert!(batch.stopped.is_none(), "no base of the input is refused");
+                n += batch.iter().map(|(_, records)| black_box(records).len()).sum::<usize>();
+                from = batch.behind();
+            }
+        }
+        Job::Single(mut run, bases) => {
             for &b in bases {
                 n += found(black_box(run.give(b))).len();
             }
@@ -88,8 +104,10 @@ impl Bench {
         for rows in &input.streams {
             columns.add_rows(rows.iter().copied());
         }
+        let mut bases = Rows::default();
+        input.bases.iter().for_each(|&b| bases.push(b));
         let genome = Genome::read(list()).expect("the list is good");
-        Bench { input, genome, columns, order: rust::genome() }
+        Bench { input, genome, columns, bases, order: rust::genome() }
     }
 
     fn ours(&self) -> Sweep<'_> {
@@ -98,7 +116,8 @@ impl Bench {
 
     fn job(&self, who: Who) -> Job<'_> {
         match who {
-            Who::Ours => Job::Ours(self.ours(), &self.input.bases),
+            Who::Ours => Job::Ours(self.ours(), &self.bases),
+            Who::Single => Job::Single(self.ours(), &self.input.bases),
             Who::Plain => Job::Plain(Plain::new(&self.input.streams), &self.input.bases),
             Who::Rust => Job::Rust(rust::begin(&self.input, &self.order)),
         }
@@ -117,29 +136,36 @@ impl Bench {
         (thread_ns() - begin) / self.input.records() as f64
     }
 
-    /// Stops unless the three find the same records for each base: ours and plain in the same order, the Rust with
-    /// records of equal start as an unordered group. Gives how many were found.
+    /// Stops unless all find the same records for each base: ours by batches, ours a base a call and plain in the same order,
+    /// the Rust with records of equal start as an unordered group. Gives how many were found.
     pub fn check(&self) -> usize {
-        let (mut ours, mut plain) = (self.ours(), Plain::new(&self.input.streams));
+        let (mut ours, mut single, mut plain) = (self.ours(), self.ours(), Plain::new(&self.input.streams));
         let mut rust = rust::begin(&self.input, &self.order);
-        let mut n = 0;
-        for &b in &self.input.bases {
-            let ours: Vec<(usize, usize)> = found(ours.give(b)).iter().collect();
-            assert_eq!(ours, plain.give(b), "ours and plain differ at {b:?}");
-            let answer = rust.next().expect("an answer for each base").expect("no base is refused");
-            let theirs = answer.overlapping.iter().map(|o| {
-                let p = o.interval.lock();
-                (p.start(), p.stop(), o.id as usize)
-            });
-            let ours = ours.iter().map(|&(s, r)| {
-                let r = self.input.streams[s][r];
-                (r.start, r.stop, s)
-            });
-            assert_eq!(grouped(ours.collect()), grouped(theirs.collect()), "ours and the Rust differ at {b:?}");
-            n += answer.overlapping.len();
+        let (mut n, mut from) = (0, 0);
+        while from < self.input.bases.len() {
+            let batch = ours.give_all(&self.bases, from);
+            assert!(batch.stopped.is_none(), "no base of the input is refused");
+            for ((base, records), &b) in batch.iter().zip(&self.input.bases[from..]) {
+                let ours: Vec<(usize, usize)> = records.iter().collect();
+                assert_eq!((base, &ours[..]), (b, plain.give(b)), "ours and plain differ at {b:?}");
+                assert_eq!(records, found(single.give(b)), "ours by batches and a base a call differ at {b:?}");
+                let theirs = rust.next().expect("an answer for each base").expect("no base is refused");
+                let theirs = theirs.overlapping.iter().map(|o| {
+                    let p = o.interval.lock();
+                    (p.start(), p.stop(), o.id as usize)
+                });
+                assert_eq!(self.grouped(&ours), grouped(theirs.collect()), "ours and the Rust differ at {b:?}");
+                n += ours.len();
+            }
+            from = batch.behind();
         }
-        assert!(rust.next().is_none(), "no answer is left over");
+        assert!(from == self.input.bases.len() && rust.next().is_none(), "as many answers as bases");
         n
+    }
+
+    fn grouped(&self, ours: &[(usize, usize)]) -> Vec<(u64, u64, usize)> {
+        let row = |&(s, r): &(usize, usize)| (self.input.streams[s][r].start, self.input.streams[s][r].stop, s);
+        grouped(ours.iter().map(row).collect())
     }
 }
 

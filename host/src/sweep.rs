@@ -79,6 +79,7 @@ impl<'a> Records<'a> {
     }
 
     /// Takes the first `count` of them away, and gives these.
+    #[inline]
     fn take(&mut self, count: usize) -> Records<'a> {
         let ((streams, s), (rows, r)) = (self.streams.split_at(count), self.rows.split_at(count));
         *self = Records { streams: s, rows: r };
