@@ -43,54 +43,65 @@ mod inplace {
     /// How a run stands, in numbers.
     #[repr(C)]
     #[derive(Clone, Copy, Debug, PartialEq, Eq)]
-    struct Mark {
-        kind: u64,
-        first: u64,
-        second: u64,
-        third: u64,
+    pub struct Mark {
+        pub kind: u64,
+        pub first: u64,
+        pub second: u64,
+        pub third: u64,
     }
 
-    /// A run as the proved calls keep it. It holds no address, so it may be moved between calls.
+    /// What a run has fixed from its start.
     #[repr(C)]
     #[derive(Clone, Copy, Debug, PartialEq, Eq)]
-    pub struct Held {
-        chrom: [u64; 8],
-        start: [u64; 8],
-        stop: [u64; 8],
-        row: [u64; 8],
-        ended: [bool; 8],
-        next: [usize; 8],
-        from: [usize; 8],
-        to: [usize; 8],
-        streams: usize,
-        chroms: usize,
-        head: usize,
-        len: usize,
-        room: usize,
-        place: u64,
-        mark: Mark,
+    pub struct Settings {
+        pub streams: usize,
+        pub chroms: usize,
+        pub room: usize,
     }
 
-    impl Held {
+    /// A run as the proved calls keep it. Any content is a run. It holds no address, so it may be moved between calls.
+    #[repr(C)]
+    #[derive(Clone, Copy, Debug, PartialEq, Eq)]
+    pub struct Run {
+        pub chrom: [u64; 8],
+        pub start: [u64; 8],
+        pub stop: [u64; 8],
+        pub row: [u64; 8],
+        pub ended: [u64; 8],
+        pub next: [usize; 8],
+        pub from: [usize; 8],
+        pub to: [usize; 8],
+        pub settings: Settings,
+        pub head: usize,
+        pub len: usize,
+        pub place: u64,
+        pub mark: Mark,
+    }
+
+    impl Run {
         /// The run of no streams, which answers 1 to every base.
-        pub const NONE: Held = Held {
+        pub const NONE: Run = Run {
             chrom: [0; 8],
             start: [0; 8],
             stop: [0; 8],
             row: [0; 8],
-            ended: [false; 8],
+            ended: [0; 8],
             next: [0; 8],
             from: [0; 8],
             to: [0; 8],
-            streams: 0,
-            chroms: 0,
+            settings: Settings { streams: 0, chroms: 0, room: 0 },
             head: 0,
             len: 0,
-            room: 0,
             place: 0,
             mark: Mark { kind: 0, first: 0, second: 0, third: 0 },
         };
     }
+
+    /// A place for a record that waits: stream, row, start and stop.
+    pub type Slot = [u64; 4];
+
+    /// A record of an answer: stream and row.
+    pub type Found = [u64; 2];
 
     /// What a base gets, in numbers: what an answer does not name is 0.
     #[repr(C)]
@@ -107,20 +118,12 @@ mod inplace {
 
     /// What bases came to that were given together: how many were answered, how many records these have together, and what
     /// the next one got, where it was given and got no records; else that is all 0.
+    #[repr(C)]
     #[derive(Clone, Copy, Debug, PartialEq, Eq)]
-    pub struct Passed {
+    pub struct Swept {
         pub bases: usize,
         pub records: usize,
         pub last: Told,
-    }
-
-    /// The same as the archive gives it, with the run after them.
-    #[repr(C)]
-    struct Swept {
-        run: Held,
-        bases: usize,
-        records: usize,
-        last: Told,
     }
 
     /// How a reading ended: the refusal's number or 0, and the rows ahead of the end.
@@ -131,22 +134,32 @@ mod inplace {
         pub rows: usize,
     }
 
-    // The layouts that the archive's own `#[repr(C)]` structs have.
-    const _: () = assert!(size_of::<Held>() == 536 && align_of::<Held>() == 8);
-    const _: () = assert!(size_of::<Told>() == 56 && size_of::<Tally>() == 16 && size_of::<Mark>() == 32);
-    const _: () = assert!(size_of::<Swept>() == 608 && align_of::<Swept>() == 8);
-    const _: () = assert!(offset_of!(Swept, run) == 0 && offset_of!(Swept, bases) == 536);
-    const _: () = assert!(offset_of!(Swept, records) == 544 && offset_of!(Swept, last) == 552);
-    const _: () = assert!(size_of::<usize>() == 8);
+    /// Stops the build unless a struct has this size, and its fields stand at these places.
+    macro_rules! laid {
+        ($name:ty, $size:literal: $($field:ident at $place:literal),+) => {
+            const _: () = assert!(size_of::<$name>() == $size && align_of::<$name>() == 8);
+            $(const _: () = assert!(offset_of!($name, $field) == $place);)+
+        };
+    }
+
+    // The layouts that the archive's own `#[repr(C)]` structs have: words alone, with nothing between them.
+    laid!(Settings, 24: streams at 0, chroms at 8, room at 16);
+    laid!(Mark, 32: kind at 0, first at 8, second at 16, third at 24);
+    laid!(Run, 592: chrom at 0, start at 64, stop at 128, row at 192, ended at 256, next at 320, from at 384, to at 448,
+        settings at 512, head at 536, len at 544, place at 552, mark at 560);
+    laid!(Told, 56: refusal at 0, count at 8, stream at 16, row at 24, offered at 32, chrom at 40, stop at 48);
+    laid!(Swept, 72: bases at 0, records at 8, last at 16);
+    laid!(Tally, 16: refusal at 0, rows at 8);
+    const _: () = assert!(size_of::<usize>() == 8 && size_of::<Slot>() == 32 && size_of::<Found>() == 16);
 
     // Here and below a slice's two words stand on one line.
     #[rustfmt::skip]
     extern "C" {
         fn cedarlash_begin(
-            run: *mut Held,
+            run: *mut Run,
+            settings: Settings,
             from: *const usize, from_len: usize,
             to: *const usize, to_len: usize,
-            room: usize,
             text: *const u8, text_len: usize,
             names_from: *const usize, names_from_len: usize,
             names_to: *const usize, names_to_len: usize,
@@ -155,21 +168,17 @@ mod inplace {
             stop: *const u64, stop_len: usize,
         ) -> u64;
         fn cedarlash_give(
-            run: *mut Held,
+            run: *mut Run,
             bchrom: u64, bstart: u64, bstop: u64,
             chrom: *const u64, chrom_len: usize,
             start: *const u64, start_len: usize,
             stop: *const u64, stop_len: usize,
             lengths: *const u64, lengths_len: usize,
-            qstream: *mut u64, qstream_len: usize,
-            qrow: *mut u64, qrow_len: usize,
-            qstart: *mut u64, qstart_len: usize,
-            qstop: *mut u64, qstop_len: usize,
-            streams: *mut u64, streams_len: usize,
-            rows: *mut u64, rows_len: usize,
+            queue: *mut Slot, queue_len: usize,
+            answers: *mut Found, answers_len: usize,
         ) -> Told;
         fn cedarlash_give_all(
-            run: Held,
+            run: *mut Run,
             bchrom: *const u64, bchrom_len: usize,
             bstart: *const u64, bstart_len: usize,
             bstop: *const u64, bstop_len: usize,
@@ -177,12 +186,8 @@ mod inplace {
             start: *const u64, start_len: usize,
             stop: *const u64, stop_len: usize,
             lengths: *const u64, lengths_len: usize,
-            qstream: *mut u64, qstream_len: usize,
-            qrow: *mut u64, qrow_len: usize,
-            qstart: *mut u64, qstart_len: usize,
-            qstop: *mut u64, qstop_len: usize,
-            streams: *mut u64, streams_len: usize,
-            rows: *mut u64, rows_len: usize,
+            queue: *mut Slot, queue_len: usize,
+            answers: *mut Found, answers_len: usize,
             counts: *mut usize, counts_len: usize,
         ) -> Swept;
         fn cedarlash_read_list(
@@ -221,14 +226,6 @@ mod inplace {
         pub chrom: &'a [u64],
         pub start: &'a [u64],
         pub stop: &'a [u64],
-    }
-
-    /// The queue's memory, four columns of the run's room.
-    pub struct Queue<'a> {
-        pub stream: &'a mut [u64],
-        pub row: &'a mut [u64],
-        pub start: &'a mut [u64],
-        pub stop: &'a mut [u64],
     }
 
     /// Reads a chromosome list to where each name begins and ends, and its length.
@@ -280,114 +277,134 @@ mod inplace {
         }
     }
 
-    /// Begins a run in `held`: 0, or why not, in which case `held` is the run of no streams.
-    #[rustfmt::skip]
-    pub fn begin(held: &mut Held, from: &[usize], to: &[usize], room: usize, names: Names, cols: Cols) -> u64 {
-        assert!(from.len() == to.len() && names.from.len() == names.to.len(), "columns of one length");
-        assert!(cols.chrom.len() == cols.start.len() && cols.chrom.len() == cols.stop.len(), "columns of one length");
-        // SAFETY: as said at the head of this file; `held` is borrowed mutably and has the archive's layout.
-        unsafe {
-            cedarlash_begin(
-                held,
-                from.as_ptr(), from.len(),
-                to.as_ptr(), to.len(),
-                room,
-                names.text.as_ptr(), names.text.len(),
-                names.from.as_ptr(), names.from.len(),
-                names.to.as_ptr(), names.to.len(),
-                cols.chrom.as_ptr(), cols.chrom.len(),
-                cols.start.as_ptr(), cols.start.len(),
-                cols.stop.as_ptr(), cols.stop.len(),
-            )
+    /// The calls on a run as they are, for whatever is lent: lengths that do not fit are theirs to refuse, by 1.
+    pub mod any {
+        use super::*;
+
+        /// Begins a run in `run`: 0, or why not, in which case `run` is the run of no streams.
+        #[rustfmt::skip]
+        pub fn begin(run: &mut Run, settings: Settings, from: &[usize], to: &[usize], names: Names, cols: Cols) -> u64 {
+            // SAFETY: as said at the head of this file; `run` is borrowed mutably and has the archive's layout, as
+            // `settings` has, which goes by the C convention.
+            unsafe {
+                cedarlash_begin(
+                    run,
+                    settings,
+                    from.as_ptr(), from.len(),
+                    to.as_ptr(), to.len(),
+                    names.text.as_ptr(), names.text.len(),
+                    names.from.as_ptr(), names.from.len(),
+                    names.to.as_ptr(), names.to.len(),
+                    cols.chrom.as_ptr(), cols.chrom.len(),
+                    cols.start.as_ptr(), cols.start.len(),
+                    cols.stop.as_ptr(), cols.stop.len(),
+                )
+            }
+        }
+
+        /// Gives a base to the run. Its records stand at the front of `answers` afterwards.
+        #[rustfmt::skip]
+        pub fn give(
+            run: &mut Run,
+            base: Base,
+            cols: Cols,
+            lengths: &[u64],
+            queue: &mut [Slot],
+            answers: &mut [Found],
+        ) -> Told {
+            // SAFETY: as said at the head of this file; `run`, the queue's slots and the answer rows are borrowed mutably,
+            // so they share no byte with each other or with what is read. Every content of `run` is a run to the archive.
+            unsafe {
+                cedarlash_give(
+                    run,
+                    base.chrom, base.start, base.stop,
+                    cols.chrom.as_ptr(), cols.chrom.len(),
+                    cols.start.as_ptr(), cols.start.len(),
+                    cols.stop.as_ptr(), cols.stop.len(),
+                    lengths.as_ptr(), lengths.len(),
+                    queue.as_mut_ptr(), queue.len(),
+                    answers.as_mut_ptr(), answers.len(),
+                )
+            }
+        }
+
+        /// Gives bases to the run, one after the other, until one gets no records or fewer answer rows are left than the
+        /// room. The records stand at the front of `answers` afterwards, those of one base behind those of the base ahead,
+        /// and the counts at the front of `counts`, which has a place for each base.
+        #[rustfmt::skip]
+        pub fn give_all(
+            run: &mut Run,
+            bases: Cols,
+            cols: Cols,
+            lengths: &[u64],
+            queue: &mut [Slot],
+            answers: &mut [Found],
+            counts: &mut [usize],
+        ) -> Swept {
+            // SAFETY: as for `give`; `counts` is borrowed mutably, too.
+            unsafe {
+                cedarlash_give_all(
+                    run,
+                    bases.chrom.as_ptr(), bases.chrom.len(),
+                    bases.start.as_ptr(), bases.start.len(),
+                    bases.stop.as_ptr(), bases.stop.len(),
+                    cols.chrom.as_ptr(), cols.chrom.len(),
+                    cols.start.as_ptr(), cols.start.len(),
+                    cols.stop.as_ptr(), cols.stop.len(),
+                    lengths.as_ptr(), lengths.len(),
+                    queue.as_mut_ptr(), queue.len(),
+                    answers.as_mut_ptr(), answers.len(),
+                    counts.as_mut_ptr(), counts.len(),
+                )
+            }
         }
     }
 
-    /// Stops unless what a base is given with is of one length each, and there are as many answer rows as the room.
-    fn assert_even(cols: Cols, queue: &Queue, streams: &[u64], rows: &[u64]) {
-        let room = queue.stream.len();
-        assert!(cols.chrom.len() == cols.start.len() && cols.chrom.len() == cols.stop.len(), "columns of one length");
-        assert!(
-            queue.row.len() == room && queue.start.len() == room && queue.stop.len() == room,
-            "queue columns of one length"
-        );
-        assert!(streams.len() == rows.len() && rows.len() >= room, "answer rows as many as the room");
+    impl Cols<'_> {
+        /// Stops unless the three are of one length.
+        fn assert_even(self) {
+            assert!(
+                self.chrom.len() == self.start.len() && self.chrom.len() == self.stop.len(),
+                "columns of one length"
+            );
+        }
     }
 
-    /// Gives a base to the run. Its records stand at the front of `streams` and `rows` afterwards.
-    #[rustfmt::skip]
+    /// [`any::begin`] for as many streams as ranges and as many chromosomes as names.
+    pub fn begin(run: &mut Run, from: &[usize], to: &[usize], room: usize, names: Names, cols: Cols) -> u64 {
+        assert!(from.len() == to.len() && names.from.len() == names.to.len(), "columns of one length");
+        cols.assert_even();
+        any::begin(run, Settings { streams: from.len(), chroms: names.from.len(), room }, from, to, names, cols)
+    }
+
+    /// [`any::give`] where all lengths fit.
     pub fn give(
-        held: &mut Held,
+        run: &mut Run,
         base: Base,
         cols: Cols,
         lengths: &[u64],
-        queue: Queue,
-        streams: &mut [u64],
-        rows: &mut [u64],
+        queue: &mut [Slot],
+        answers: &mut [Found],
     ) -> Told {
-        assert_even(cols, &queue, streams, rows);
-        // SAFETY: as said at the head of this file; `held`, the queue's and the answers' columns are borrowed mutably, so
-        // they share no byte with each other or with what is read. Every content of `held` is a run to the archive.
-        unsafe {
-            cedarlash_give(
-                held,
-                base.chrom, base.start, base.stop,
-                cols.chrom.as_ptr(), cols.chrom.len(),
-                cols.start.as_ptr(), cols.start.len(),
-                cols.stop.as_ptr(), cols.stop.len(),
-                lengths.as_ptr(), lengths.len(),
-                queue.stream.as_mut_ptr(), queue.stream.len(),
-                queue.row.as_mut_ptr(), queue.row.len(),
-                queue.start.as_mut_ptr(), queue.start.len(),
-                queue.stop.as_mut_ptr(), queue.stop.len(),
-                streams.as_mut_ptr(), streams.len(),
-                rows.as_mut_ptr(), rows.len(),
-            )
-        }
+        cols.assert_even();
+        assert!(answers.len() >= queue.len(), "answer rows as many as the room");
+        any::give(run, base, cols, lengths, queue, answers)
     }
 
-    /// Gives bases to the run, one after the other, until one gets no records or fewer answer rows are left than the room.
-    /// The records stand at the front of `streams` and `rows` afterwards, those of one base behind those of the base ahead, and
-    /// the counts at the front of `counts`, which has a place for each base.
-    #[rustfmt::skip]
-    #[allow(clippy::too_many_arguments)]
+    /// [`any::give_all`] where all lengths fit.
     pub fn give_all(
-        held: &mut Held,
+        run: &mut Run,
         bases: Cols,
         cols: Cols,
         lengths: &[u64],
-        queue: Queue,
-        streams: &mut [u64],
-        rows: &mut [u64],
+        queue: &mut [Slot],
+        answers: &mut [Found],
         counts: &mut [usize],
-    ) -> Passed {
-        let len = bases.chrom.len();
-        assert!(bases.start.len() == len && bases.stop.len() == len, "columns of one length");
-        assert!(counts.len() >= len, "a count for each base");
-        assert_even(cols, &queue, streams, rows);
-        // SAFETY: as said at the head of this file; the queue's, the answers' and the counts' columns are borrowed mutably, so
-        // they share no byte with each other or with what is read. The run goes in as a copy and comes out as one, both in
-        // the archive's layout and by the C convention; every content of it is a run to the archive, and of the one that it
-        // gives back each `ended` is 0 or 1.
-        let swept = unsafe {
-            cedarlash_give_all(
-                *held,
-                bases.chrom.as_ptr(), bases.chrom.len(),
-                bases.start.as_ptr(), bases.start.len(),
-                bases.stop.as_ptr(), bases.stop.len(),
-                cols.chrom.as_ptr(), cols.chrom.len(),
-                cols.start.as_ptr(), cols.start.len(),
-                cols.stop.as_ptr(), cols.stop.len(),
-                lengths.as_ptr(), lengths.len(),
-                queue.stream.as_mut_ptr(), queue.stream.len(),
-                queue.row.as_mut_ptr(), queue.row.len(),
-                queue.start.as_mut_ptr(), queue.start.len(),
-                queue.stop.as_mut_ptr(), queue.stop.len(),
-                streams.as_mut_ptr(), streams.len(),
-                rows.as_mut_ptr(), rows.len(),
-                counts.as_mut_ptr(), counts.len(),
-            )
-        };
-        *held = swept.run;
-        Passed { bases: swept.bases, records: swept.records, last: swept.last }
+    ) -> Swept {
+        bases.assert_even();
+        assert!(counts.len() >= bases.chrom.len(), "a count for each base");
+        cols.assert_even();
+        assert!(answers.len() >= queue.len(), "answer rows as many as the room");
+        any::give_all(run, bases, cols, lengths, queue, answers, counts)
     }
 }

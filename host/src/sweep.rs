@@ -2,15 +2,15 @@
 
 use crate::columns::{Base, Columns, Rows};
 use crate::genome::Genome;
-use crate::raw::{self, Cols, Held, Queue, Told};
+use crate::raw::{self, Cols, Found, Run, Slot, Told};
 use crate::refusal::{words, Refusal};
 use std::convert::Infallible;
 
 /// The most records that can wait: the largest room.
 pub const MOST_ROOM: usize = 65_536;
 
-/// How many bases are given at once at most, and how many answer rows there are for them beyond the room. A run is copied in and
-/// out once for so many bases.
+/// How many bases are given at once at most, and how many answer rows there are for them beyond the room. What a call costs
+/// beside the bases is paid once for so many.
 const BATCH: usize = 256;
 const SPARE: usize = 4_096;
 
@@ -57,33 +57,35 @@ pub enum Answer<R> {
     Ended(End),
 }
 
-/// The records of an answer, as two columns of one length.
+/// The records of an answer, in merged order.
 #[derive(Clone, Copy, Debug, PartialEq, Eq)]
-pub struct Records<'a> {
-    pub streams: &'a [u64],
-    pub rows: &'a [u64],
-}
+pub struct Records<'a>(&'a [Found]);
 
 impl<'a> Records<'a> {
     pub fn len(&self) -> usize {
-        self.rows.len()
+        self.0.len()
     }
 
     pub fn is_empty(&self) -> bool {
-        self.rows.is_empty()
+        self.0.is_empty()
     }
 
     /// Stream and row of each.
     pub fn iter(&self) -> impl Iterator<Item = (usize, usize)> + 'a {
-        self.streams.iter().zip(self.rows).map(|(&stream, &row)| (stream as usize, row as usize))
+        self.0.iter().map(|&[stream, row]| (stream as usize, row as usize))
+    }
+
+    /// The same as they stand in memory: stream and row of each.
+    pub fn as_slice(&self) -> &'a [[u64; 2]] {
+        self.0
     }
 
     /// Takes the first `count` of them away, and gives these.
     #[inline]
     fn take(&mut self, count: usize) -> Records<'a> {
-        let ((streams, s), (rows, r)) = (self.streams.split_at(count), self.rows.split_at(count));
-        *self = Records { streams: s, rows: r };
-        Records { streams, rows }
+        let (taken, left) = self.0.split_at(count);
+        *self = Records(left);
+        Records(taken)
     }
 }
 
@@ -110,17 +112,16 @@ fn unfound<R>(told: Told) -> Option<Answer<R>> {
     }
 }
 
-/// A run over streams in columns. It owns the queue's memory and the answer rows, 48 bytes for each record that may wait, and
-/// 66 KiB more for batches ([`Sweep::give_all`]), all of it allocated when it begins; the columns are only borrowed, so that
-/// they cannot change while it goes on.
+/// A run over streams in columns. It owns the queue's slots, 32 bytes each, and the answer rows, 16 bytes each: 48 bytes for each
+/// record that may wait, and 66 KiB more for batches ([`Sweep::give_all`]), all of it allocated when it begins; the columns are
+/// only borrowed, so that they cannot change while it goes on.
 pub struct Sweep<'a> {
     genome: &'a Genome,
     columns: &'a Columns,
-    held: Held,
-    queue: [Vec<u64>; 4],
+    run: Run,
+    queue: Vec<Slot>,
     /// The answer rows: as many as the room, and some to spare for the bases of a batch.
-    streams: Vec<u64>,
-    rows: Vec<u64>,
+    answers: Vec<Found>,
     /// How many records each base of a batch has.
     counts: Vec<usize>,
 }
@@ -129,15 +130,13 @@ impl<'a> Sweep<'a> {
     /// Begins a run in which at most `room` records wait at a time (1 to 65,536). It is refused by 1 if that or the count
     /// of streams (1 to 8) is broken.
     pub fn begin(genome: &'a Genome, columns: &'a Columns, room: usize) -> Result<Self, Refusal> {
-        let mut held = Held::NONE;
+        let mut run = Run::NONE;
         let (from, to) = columns.ranges();
-        match raw::begin(&mut held, from, to, room, genome.lent(), columns.lent()) {
+        match raw::begin(&mut run, from, to, room, genome.lent(), columns.lent()) {
             // The room is known to be good from here on.
             0 => {
-                let column = || vec![0; room];
-                let queue = [column(), column(), column(), column()];
-                let (streams, rows, counts) = (Vec::new(), Vec::new(), vec![0; BATCH]);
-                Ok(Sweep { genome, columns, held, queue, streams, rows, counts }.with_spare(SPARE))
+                let (queue, answers, counts) = (vec![[0; 4]; room], Vec::new(), vec![0; BATCH]);
+                Ok(Sweep { genome, columns, run, queue, answers, counts }.with_spare(SPARE))
             }
             number => Err(Refusal(number)),
         }
@@ -145,12 +144,10 @@ impl<'a> Sweep<'a> {
 
     /// Gives a base. Bases come by chromosome, start and stop.
     pub fn give(&mut self, base: Base) -> Answer<Records<'_>> {
-        let [stream, row, start, stop] = &mut self.queue;
-        let queue = Queue { stream, row, start, stop };
         let (cols, lengths) = (self.columns.lent(), self.genome.lengths());
-        let told = raw::give(&mut self.held, base, cols, lengths, queue, &mut self.streams, &mut self.rows);
+        let told = raw::give(&mut self.run, base, cols, lengths, &mut self.queue, &mut self.answers);
         unfound(told).unwrap_or_else(|| Answer::Found {
-            records: Records { streams: &self.streams[..told.count], rows: &self.rows[..told.count] },
+            records: Records(&self.answers[..told.count]),
             offer: (told.offered != 0).then_some(Place { chrom: told.chrom, stop: told.stop }),
         })
     }
@@ -159,26 +156,23 @@ impl<'a> Sweep<'a> {
     /// 256 of them, until one gets no records (it is refused, or the run ends) or the answer rows might not do for the next.
     /// At least one is given if there is one. No offers are told: where bases are to be left out, they are given one by one.
     pub fn give_all<'b>(&'b mut self, bases: &'b Rows, from: usize) -> Batch<'b> {
-        let [stream, row, start, stop] = &mut self.queue;
-        let queue = Queue { stream, row, start, stop };
         let (cols, lengths) = (self.columns.lent(), self.genome.lengths());
         let bases = bases.some(from, self.counts.len());
-        let (streams, rows, counts) = (&mut self.streams, &mut self.rows, &mut self.counts);
-        let passed = raw::give_all(&mut self.held, bases, cols, lengths, queue, streams, rows, counts);
+        let (queue, answers, counts) = (&mut self.queue, &mut self.answers, &mut self.counts);
+        let swept = raw::give_all(&mut self.run, bases, cols, lengths, queue, answers, counts);
         Batch {
             from,
             bases,
-            counts: &self.counts[..passed.bases],
-            records: Records { streams: &self.streams[..passed.records], rows: &self.rows[..passed.records] },
-            stopped: unfound(passed.last),
+            counts: &self.counts[..swept.bases],
+            records: Records(&self.answers[..swept.records]),
+            stopped: unfound(swept.last),
         }
     }
 
     /// The same run with so many answer rows beyond the room, 16 bytes each, in place of 4,096. A batch ends when fewer than
     /// the room are left, so with more of them bases that have many records get along in fewer calls; the answers are the same.
     pub fn with_spare(mut self, rows: usize) -> Self {
-        let len = self.queue[0].len() + rows;
-        (self.streams, self.rows) = (vec![0; len], vec![0; len]);
+        self.answers = vec![[0; 2]; self.queue.len() + rows];
         self
     }
 

@@ -8,14 +8,15 @@ use lib.Dec.{ltb}
 use lib.ListN.{getD}
 use borrow.Author.Count.{below-more}
 use borrow.Author.Tests.{lt-ltb, le-ltb}
-use Rattle.lists.proofs.BoolLaws.{off, clash}
-use Rattle.lists.proofs.ListLaws.{all-true, all-pass}
-use Rattle.lists.proofs.EdgeLaws.{upto-pass, upto-fail}
+use Rattle.basics.proofs.BoolLaws.{off, clash}
+use Rattle.basics.proofs.ListLaws.{all-true, all-pass}
+use Rattle.basics.proofs.EdgeLaws.{upto-pass, upto-fail}
 use Rattle.rules.specs.Rows.{Record}
 use Rattle.queue.specs.declared.Ring.{Ring}
-use Rattle.queue.specs.Ring.{cells, place, waiting}
+use Rattle.queue.specs.Ring.{Cells, slotAt, place, waiting}
 use Rattle.queue.proofs.Calls.{all-waiting, waiting-all}
 use Rattle.admit.specs.Right.{named, headNamed, headsNamed, slotsNamed}
+use Rattle.least.specs.Fours.{ended?}
 
 module _ (n : ℕ) (from to : List ℕ) where
   named-row : (s row : ℕ) → s < n → named n from to s row ≡ ltb row (getD to s 0 - getD from s 0)
@@ -33,12 +34,12 @@ module _ (n : ℕ) (from to : List ℕ) where
   -- ---- heads
 
   -- the heads of the first k streams
-  module _ (ended : List Bool) (row : List ℕ) where
+  module _ (ended : List ℕ) (row : List ℕ) where
     pub record Heading (k : ℕ) : Type 0 where
       pub within : k ≤ n
       pub each : (j : ℕ) → j < k → headNamed n ended row from to j ≡ true
 
-    head-at : (k : ℕ) → k < n → headNamed n ended row from to k ≡ getD ended k false || ltb (getD row k 0) (getD to k 0 - getD from k 0)
+    head-at : (k : ℕ) → k < n → headNamed n ended row from to k ≡ ended? (getD ended k 0) || ltb (getD row k 0) (getD to k 0 - getD from k 0)
     head-at k h = rw (named-row k (getD row k 0) h)
 
     module _ (k : ℕ) (v : Heading k) where
@@ -47,7 +48,7 @@ module _ (n : ℕ) (from to : List ℕ) where
       heading-end h = upto-pass (headNamed n ended row from to) n (λ j b. v .each j (omega (arith, v .within)))
 
       -- one head more
-      module _ (r : Bool) (more : k < n) (is : r ≡ getD ended k false || ltb (getD row k 0) (getD to k 0 - getD from k 0)) where
+      module _ (r : Bool) (more : k < n) (is : r ≡ ended? (getD ended k 0) || ltb (getD row k 0) (getD to k 0 - getD from k 0)) where
         pub heading-next : r ≡ true → Heading (k + 1)
         heading-next e = record { within = omega arith; each = below-more (λ (j : ℕ). headNamed n ended row from to j ≡ true) k (v .each) (head-at k more ∙ sym is ∙ e) }
 
@@ -57,30 +58,28 @@ module _ (n : ℕ) (from to : List ℕ) where
 
   -- ---- records that wait
 
-  -- number j of a ring over the columns ss and rs
-  abbrev pub slotNamed : ℕ → ℕ → List ℕ → List ℕ → ℕ → Bool
-  slotNamed head room ss rs j = named n from to (getD ss (place head room j) 0) (getD rs (place head room j) 0)
+  -- number j of a ring
+  abbrev pub slotNamed : ℕ → ℕ → Cells → ℕ → Bool
+  slotNamed head room c j = named n from to (slotAt c (place head room j) .stream .0) (slotAt c (place head room j) .row)
 
   -- the first k of a ring
-  pub record Slotting (head len room : ℕ) (ss rs : List ℕ) (k : ℕ) : Type 0 where
+  pub record Slotting (head len room : ℕ) (c : Cells) (k : ℕ) : Type 0 where
     pub within : k ≤ len
-    pub each : (j : ℕ) → j < k → slotNamed head room ss rs j ≡ true
+    pub each : (j : ℕ) → j < k → slotNamed head room c j ≡ true
 
-  module _ (q : Ring) (ss rs : List ℕ) (k : ℕ) (v : Slotting (q .head) (q .len) (q .room) ss rs k) where
-    pub slotting-end : q .len ≤ k → (starts stops : List ℕ) → slotsNamed n from to q (cells ss rs starts stops) ≡ true
+  module _ (q : Ring) (c : Cells) (k : ℕ) (v : Slotting (q .head) (q .len) (q .room) c k) where
+    pub slotting-end : q .len ≤ k → slotsNamed n from to q c ≡ true
     unfolding slotsNamed
-    slotting-end h starts stops = all-pass (all-waiting q (cells ss rs starts stops) (λ j b. v .each j (omega (arith, v .within))))
+    slotting-end h = all-pass (all-waiting q c (λ j b. v .each j (omega (arith, v .within))))
 
     -- one record more, which stands at `at`
-    module _ (at : ℕ) (r : Bool) (more : k < q .len) (here : at ≡ place (q .head) (q .room) k) (is : r ≡ named n from to (getD ss at 0) (getD rs at 0)) where
-      at-k : slotNamed (q .head) (q .room) ss rs k ≡ r
+    module _ (at : ℕ) (r : Bool) (more : k < q .len) (here : at ≡ place (q .head) (q .room) k) (is : r ≡ named n from to (slotAt c at .stream .0) (slotAt c at .row)) where
+      at-k : slotNamed (q .head) (q .room) c k ≡ r
       at-k = rw (← here) (sym is)
 
-      pub slotting-next : r ≡ true → Slotting (q .head) (q .len) (q .room) ss rs (k + 1)
-      slotting-next e = record { within = omega arith; each = below-more (λ (j : ℕ). slotNamed (q .head) (q .room) ss rs j ≡ true) k (v .each) (at-k ∙ e) }
+      pub slotting-next : r ≡ true → Slotting (q .head) (q .len) (q .room) c (k + 1)
+      slotting-next e = record { within = omega arith; each = below-more (λ (j : ℕ). slotNamed (q .head) (q .room) c j ≡ true) k (v .each) (at-k ∙ e) }
 
-      pub slotting-stop : r ≡ false → (starts stops : List ℕ) → slotsNamed n from to q (cells ss rs starts stops) ≡ false
+      pub slotting-stop : r ≡ false → slotsNamed n from to q c ≡ false
       unfolding slotsNamed
-      slotting-stop e starts stops =
-          off _
-          (λ t. clash (waiting-all q (cells ss rs starts stops) (all-true (λ (x : Record). named n from to (x .stream .0) (x .row)) (waiting q (cells ss rs starts stops)) t) k more) (at-k ∙ e))
+      slotting-stop e = off _ (λ t. clash (waiting-all q c (all-true (λ (x : Record). named n from to (x .stream .0) (x .row)) (waiting q c) t) k more) (at-k ∙ e))

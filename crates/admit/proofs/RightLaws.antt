@@ -5,15 +5,15 @@ use mathlib.Core.List.{List}
 use Prim.Native.Nat.{ℕ, _-_, _<_, _≤_}
 use native.Mathlib.Omega.{arith}
 use lib.ListN.{getD}
-use Rattle.lists.specs.Lists.{Says, All}
-use Rattle.lists.proofs.SaysLaws.{says-true, says-same, says-map, says-is, says-le, says-lt, says-eq, says-then, says-and, says-or, says-all, says-upto}
+use Rattle.basics.specs.Lists.{Says, All}
+use Rattle.basics.proofs.SaysLaws.{says-true, says-same, says-map, says-is, says-le, says-lt, says-eq, says-then, says-and, says-or, says-all, says-upto}
 use Rattle.heads.specs.Move.{PlacedIn}
 use Rattle.queue.specs.declared.Ring.{Ring}
 use Rattle.queue.specs.Ring.{Cells, Sound, waiting}
-use Rattle.queue.proofs.Calls.{all-waiting, waiting-all}
 use Rattle.admit.specs.declared.Lens.{Lens}
 use Rattle.admit.specs.Right.{measured, placed, named, headsNamed, slotsNamed, right}
 use Rattle.admit.specs.Fits.{Told, Fits}
+use Rattle.least.specs.Fours.{ended?}
 
 -- ---- a stream and a row that are named
 
@@ -36,12 +36,8 @@ pub record Measured (l : Lens) (streams chroms : ℕ) (q : Ring) : Type 0 where
   pub starts : l .start ≡ l .chrom
   pub stops : l .stop ≡ l .chrom
   pub lengths : l .lengths ≡ chroms
-  pub qstream : l .qstream ≡ q .room
-  pub qrow : l .qrow ≡ q .room
-  pub qstart : l .qstart ≡ q .room
-  pub qstop : l .qstop ≡ q .room
-  pub answer : q .room ≤ l .streams
-  pub paired : l .streams ≡ l .rows
+  pub slots : l .queue ≡ q .room
+  pub answer : q .room ≤ l .answers
 
 pub measured-says : (l : Lens) (streams chroms : ℕ) (q : Ring) → Says (measured l streams chroms q) (Measured l streams chroms q)
 unfolding measured
@@ -52,32 +48,26 @@ measured-says l streams chroms q =
       few = h .0 .0 .1;
       any = h .0 .1 .0 .0;
       listed = h .0 .1 .0 .1;
-      sound = record { inside = h .1 .1 .1 .1 .0; fits = h .1 .1 .1 .1 .1; small = h .0 .1 .1 .1 };
+      sound = record { inside = h .1 .1 .1 .0; fits = h .1 .1 .1 .1; small = h .0 .1 .1 .1 };
       starts = h .1 .0 .0;
       stops = h .1 .0 .1 .0;
       lengths = h .1 .0 .1 .1;
-      qstream = h .1 .1 .0 .0 .0;
-      qrow = h .1 .1 .0 .0 .1;
-      qstart = h .1 .1 .0 .1 .0;
-      qstop = h .1 .1 .0 .1 .1;
-      answer = h .1 .1 .1 .0 .0;
-      paired = sym (h .1 .1 .1 .0 .1);
+      slots = h .1 .1 .0 .0;
+      answer = h .1 .1 .0 .1;
     })
     (λ m.
     let roomy : 1 ≤ q .room = omega (arith, m .sound .inside) in (
       ((m .some, m .few), ((m .any, m .listed), (roomy, m .sound .small))),
       (
         (m .starts, (m .stops, m .lengths)),
-        (((m .qstream, m .qrow), (m .qstart, m .qstop)), ((m .answer, sym (m .paired)), (m .sound .inside, m .sound .fits))),
+        ((m .slots, m .answer), (m .sound .inside, m .sound .fits)),
       ),
     ))
     (says-and
     (says-and (says-and (says-le _ _) (says-le _ _)) (says-and (says-and (says-le _ _) (says-le _ _)) (says-and (says-le _ _) (says-le _ _))))
     (says-and
     (says-and (says-eq _ _) (says-and (says-eq _ _) (says-eq _ _)))
-    (says-and
-    (says-and (says-and (says-eq _ _) (says-eq _ _)) (says-and (says-eq _ _) (says-eq _ _)))
-    (says-and (says-and (says-le _ _) (says-eq _ _)) (says-and (says-lt _ _) (says-le _ _))))))
+    (says-and (says-and (says-eq _ _) (says-le _ _)) (says-and (says-lt _ _) (says-le _ _)))))
 
 -- ---- what the run and its queue name
 
@@ -89,28 +79,18 @@ placed-says {lc} {n} next from to few starts stops =
     (λ p k b. (p .low k b, p .high k b))
     (says-upto (λ k. says-and (says-le (getD from k 0) (getD next k 0)) (says-le (getD to k 0) lc)) n)
 
-heads-say : (n : ℕ) (ended : List Bool) (row from to : List ℕ) →
-    Says (headsNamed n ended row from to) ((k : ℕ) → k < n → getD ended k false ≡ false → named n from to k (getD row k 0) ≡ true)
+heads-say : (n : ℕ) (ended : List ℕ) (row from to : List ℕ) →
+    Says (headsNamed n ended row from to) ((k : ℕ) → k < n → ended? (getD ended k 0) ≡ false → named n from to k (getD row k 0) ≡ true)
 unfolding headsNamed
-heads-say n ended row from to = says-upto (λ k. says-or (getD ended k false) (says-is (named n from to k (getD row k 0)))) n
+heads-say n ended row from to = says-upto (λ k. says-or (ended? (getD ended k 0)) (says-is (named n from to k (getD row k 0)))) n
 
 slots-say : (n : ℕ) (from to : List ℕ) (q : Ring) (c : Cells) → Says (slotsNamed n from to q c) (All (λ r. named n from to (r .stream .0) (r .row) ≡ true) (waiting q c))
 unfolding slotsNamed
 slots-say n from to q c = says-all (λ r. says-is (named n from to (r .stream .0) (r .row))) (waiting q c)
 
--- the starts and the stops are not looked at
-pub slots-same : (n : ℕ) (from to : List ℕ) (q : Ring) (c d : Cells) → c .stream ≡ d .stream → c .row ≡ d .row → slotsNamed n from to q c ≡ slotsNamed n from to q d
-slots-same n from to q c d s r =
-    says-same
-    (slots-say n from to q c)
-    (says-map
-    (λ h. all-waiting q c (λ k b. rw (s, r) (waiting-all q d h k b)))
-    (λ h. all-waiting q d (λ k b. rw (← s, ← r) (waiting-all q c h k b)))
-    (slots-say n from to q d))
-
 -- ---- all of it
 
-module _ (l : Lens) (streams chroms : ℕ) (q : Ring) (ended : List Bool) (row next from to : List ℕ) (c : Cells) where
+module _ (l : Lens) (streams chroms : ℕ) (q : Ring) (ended : List ℕ) (row next from to : List ℕ) (c : Cells) where
   -- the test's parts, as the code goes through them; p is what is said of the streams' places
   pub right-off : measured l streams chroms q ≡ false → right l streams chroms q ended row next from to c ≡ false
   unfolding right
@@ -136,9 +116,8 @@ module _ (l : Lens) (streams chroms : ℕ) (q : Ring) (ended : List Bool) (row n
         any = m .any;
         listed = m .listed;
         lengths = m .lengths;
-        fair = record { sound = m .sound; streams = t .streams ∙ m .qstream; rows = t .rows ∙ m .qrow; starts = t .starts ∙ m .qstart; stops = t .stops ∙ m .qstop };
+        fair = record { sound = m .sound; slots = t ∙ m .slots };
         answer = m .answer;
-        paired = m .paired;
         placed = h .1 .0;
         heads = h .1 .1 .0;
         slots = h .1 .1 .1;
@@ -153,12 +132,8 @@ module _ (l : Lens) (streams chroms : ℕ) (q : Ring) (ended : List Bool) (row n
         starts = f .placed .starts;
         stops = f .placed .stops;
         lengths = f .lengths;
-        qstream = sym (t .streams) ∙ f .fair .streams;
-        qrow = sym (t .rows) ∙ f .fair .rows;
-        qstart = sym (t .starts) ∙ f .fair .starts;
-        qstop = sym (t .stops) ∙ f .fair .stops;
+        slots = sym t ∙ f .fair .slots;
         answer = f .answer;
-        paired = f .paired;
       } in
       (m, (f .placed, (f .heads, f .slots))))
       (says-then (measured-says l streams chroms q)
@@ -169,9 +144,3 @@ module _ (l : Lens) (streams chroms : ℕ) (q : Ring) (ended : List Bool) (row n
 
   pub fits-right : Told l c → Fits l streams chroms q ended row next from to c → right l streams chroms q ended row next from to c ≡ true
   fits-right t f = says-true (right-says t) f
-
--- whatever stands in the starts and the stops
-pub right-same : (l : Lens) (streams chroms : ℕ) (q : Ring) (ended : List Bool) (row next from to : List ℕ) (c d : Cells) → c .stream ≡ d .stream → c .row ≡ d .row →
-    right l streams chroms q ended row next from to c ≡ right l streams chroms q ended row next from to d
-unfolding right
-right-same l streams chroms q ended row next from to c d s r = rw (slots-same streams from to q c d s r)

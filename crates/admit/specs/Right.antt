@@ -4,9 +4,10 @@ use mathlib.Core.List.{List}
 use Prim.Native.Nat.{ℕ, _-_}
 use lib.Dec.{eqb, leb, ltb}
 use lib.ListN.{getD}
-use Rattle.lists.specs.Build.{upto}
-use Rattle.lists.specs.Lists.{all}
+use Rattle.basics.specs.Build.{upto}
+use Rattle.basics.specs.Lists.{all}
 use Rattle.rules.specs.Start.{sized}
+use Rattle.least.specs.Fours.{ended?}
 use Rattle.queue.specs.declared.Ring.{Ring}
 use Rattle.queue.specs.Ring.{Cells, waiting}
 use Rattle.admit.specs.declared.Lens.{Lens}
@@ -17,13 +18,9 @@ use Rattle.admit.specs.declared.Lens.{Lens}
 abbrev pub evenly : ℕ → Lens → Bool
 evenly chroms l = eqb (l .start) (l .chrom) && (eqb (l .stop) (l .chrom) && eqb (l .lengths) chroms)
 
--- "lent columns differ in length": not so where each of the queue's four has as many slots as there is room for records
+-- "lent columns differ in length": not so where the queue has as many slots as there is room for records, and "Answer rows lent: at least Q."
 abbrev pub slotted : ℕ → Lens → Bool
-slotted room l = (eqb (l .qstream) room && eqb (l .qrow) room) && (eqb (l .qstart) room && eqb (l .qstop) room)
-
--- "Answer rows lent: at least Q.", in two columns of one length
-abbrev pub answered : ℕ → Lens → Bool
-answered room l = leb room (l .streams) && eqb (l .rows) (l .streams)
+slotted room l = eqb (l .queue) room && leb room (l .answers)
 
 -- "a ring in lent memory": its head is one of its slots, and no more wait than there are slots
 abbrev pub inside : Ring → Bool
@@ -31,7 +28,7 @@ inside q = ltb (q .head) (q .room) && leb (q .len) (q .room)
 
 -- "a size above (other than a name's) is broken, lent columns differ in length": not so
 unfoldable pub measured : Lens → ℕ → ℕ → Ring → Bool
-measured l streams chroms q = sized streams chroms (q .room) && (evenly chroms l && (slotted (q .room) l && (answered (q .room) l && inside q)))
+measured l streams chroms q = sized (record { streams = streams; chroms = chroms; room = q .room }) && (evenly chroms l && (slotted (q .room) l && inside q))
 
 -- ---- what is named
 
@@ -48,10 +45,10 @@ unfoldable pub named : ℕ → List ℕ → List ℕ → ℕ → ℕ → Bool
 named n from to s row = ltb s n && ltb row (getD to s 0 - getD from s 0)
 
 -- "a run [..] names": by the head of each stream that has not ended
-abbrev pub headNamed : ℕ → List Bool → List ℕ → List ℕ → List ℕ → ℕ → Bool
-headNamed n ended row from to k = getD ended k false || named n from to k (getD row k 0)
+abbrev pub headNamed : ℕ → List ℕ → List ℕ → List ℕ → List ℕ → ℕ → Bool
+headNamed n ended row from to k = ended? (getD ended k 0) || named n from to k (getD row k 0)
 
-unfoldable pub headsNamed : ℕ → List Bool → List ℕ → List ℕ → List ℕ → Bool
+unfoldable pub headsNamed : ℕ → List ℕ → List ℕ → List ℕ → List ℕ → Bool
 headsNamed n ended row from to = all (headNamed n ended row from to) (upto n)
 
 -- "or its queue names": by each record that waits
@@ -61,8 +58,8 @@ slotsNamed n from to q c = all (λ r. named n from to (r .stream .0) (r .row)) (
 -- ---- all of it
 
 -- 1 is not due: of the lengths of what is lent, the numbers of streams and chromosomes, the ring, of each stream whether it has ended, its head's
--- row, its next place and where its rows begin and end, and of the queue's columns
-unfoldable pub right : Lens → ℕ → ℕ → Ring → List Bool → List ℕ → List ℕ → List ℕ → List ℕ → Cells → Bool
+-- row, its next place and where its rows begin and end, and of the queue's memory
+unfoldable pub right : Lens → ℕ → ℕ → Ring → List ℕ → List ℕ → List ℕ → List ℕ → List ℕ → Cells → Bool
 right l streams chroms q ended row next from to c =
     measured l streams chroms q
     && (placed (l .chrom) streams next from to

@@ -1,31 +1,28 @@
-// Whether a base is let in to a run that goes on: refusal 1, then 4, 6, 3, 5. There are tests only, and nothing is written.
+// Whether a base is let in to a run that goes on: refusal 1 (`is_right`), then 4, 6, 3, 5 (`judge`). There are tests only, and nothing is written.
 ghost use mathlib.Core.Path.{_≡_};
 ghost use mathlib.Core.Bool.{_||_};
-ghost use mathlib.Core.List.{List};
 ghost use Prim.Native.Nat.{ℕ, _-_, _≤_};
 ghost use lib.Dec.{ltb};
 ghost use lib.ListN.{length};
 ghost use Rattle.rules.specs.Bases.{notBefore, inOrder, judge};
-ghost use Rattle.queue.specs.Ring.{cells, Sound};
+ghost use Rattle.least.specs.Fours.{ended?};
+ghost use Rattle.queue.specs.Ring.{Fair};
 ghost use Rattle.admit.specs.Right.{measured, named, headsNamed, slotsNamed, right};
-ghost use Rattle.admit.specs.Gates.{lengthsOf, lastOf, judgedOf, gateOf};
+ghost use Rattle.admit.specs.Gates.{lengthsOf, lastOf, judgedOf};
 use queue::Ring;
 use rules::Base;
 use rules::Refusal;
+use rules::Settings;
 use rules::Stage;
 
-// The lengths of what is lent with a base: the streams' columns, the chromosomes' lengths, the queue's columns and the answer's.
+// The lengths of what is lent with a base: the streams' columns, the chromosomes' lengths, the queue's slots and the answer rows.
 pub struct Lens {
     pub chrom: usize,
     pub start: usize,
     pub stop: usize,
     pub lengths: usize,
-    pub qstream: usize,
-    pub qrow: usize,
-    pub qstart: usize,
-    pub qstop: usize,
-    pub streams: usize,
-    pub rows: usize,
+    pub queue: usize,
+    pub answers: usize,
 }
 
 // Whether a base is let in.
@@ -34,33 +31,20 @@ pub enum Gate {
     Shut(Refusal),
 }
 
-// A place as a number of rows, and a number as a place.
-fn number(x: usize) -> u64
-    ensures { λ r. ⌜ r ≡ x ⌝ }
-{
-    x as u64
-}
-
-fn place_in(x: u64) -> usize
-    ensures { λ r. ⌜ r ≡ x ⌝ }
-{
-    x as usize
-}
-
 // Whether each size is kept to: the paper's, and those of the columns to one another and to the ring.
-fn is_sized(streams: usize, chroms: usize, ring: Ring, l: Lens) -> bool
+fn is_measured(streams: usize, chroms: usize, ring: Ring, l: Lens) -> bool
     ensures { λ r. ⌜ r ≡ measured l streams chroms ring ⌝ }
 {
     let room = ring.room;
-    let few = (1 <= streams) & (streams <= 8);
-    let listed = (1 <= chroms) & (chroms <= 256);
-    let roomy = (1 <= room) & (room <= 65536);
+    let sized = measures::is_sized(Settings {
+        streams: streams,
+        chroms: chroms,
+        room: room,
+    });
     let columns = (l.start == l.chrom) & ((l.stop == l.chrom) & (l.lengths == chroms));
-    let named = (l.qstream == room) & (l.qrow == room);
-    let spans = (l.qstart == room) & (l.qstop == room);
-    let answer = (room <= l.streams) & (l.rows == l.streams);
+    let lent = (l.queue == room) & (room <= l.answers);
     let inside = (ring.head < room) & (ring.len <= room);
-    (few & (listed & roomy)) & (columns & ((named & spans) & (answer & inside)))
+    sized & (columns & (lent & inside))
 }
 
 // Whether a row is one of a stream whose rows stand from one place up to another.
@@ -70,14 +54,14 @@ fn is_row(from: usize, to: usize, row: u64) -> bool
     if to < from {
         return false;
     }
-    row < number(to - from)
+    row < measures::number(to - from)
 }
 
 // Whether a head names a row of its stream, or its stream has ended.
-fn head_named(ended: bool, from: usize, to: usize, row: u64) -> bool
-    ensures { λ r. ⌜ r ≡ ended || ltb row (to - from) ⌝ }
+fn head_named(mark: u64, from: usize, to: usize, row: u64) -> bool
+    ensures { λ r. ⌜ r ≡ ended? mark || ltb row (to - from) ⌝ }
 {
-    if ended {
+    if least::has_ended(mark) {
         return true;
     }
     is_row(from, to, row)
@@ -86,7 +70,7 @@ fn head_named(ended: bool, from: usize, to: usize, row: u64) -> bool
 // Whether each head of a stream that has not ended names a row of its stream.
 fn heads_named<'a>(
     streams: usize,
-    ended: &'a [bool; 8],
+    ended: &'a [u64; 8],
     row: &'a [u64; 8],
     from: &'a [usize; 8],
     to: &'a [usize; 8],
@@ -115,10 +99,10 @@ fn slot_named<'a>(
     requires { ⌜ streams ≤ 8 ⌝ }
     ensures { λ r. ⌜ r ≡ named streams (now (from .entry)) (now (to .entry)) stream row ⌝ }
 {
-    if number(streams) <= stream {
+    if measures::number(streams) <= stream {
         return false;
     }
-    let k = place_in(stream);
+    let k = measures::place_in(stream);
     is_row(from[k], to[k], row)
 }
 
@@ -128,11 +112,10 @@ fn slots_named<'a>(
     streams: usize,
     from: &'a [usize; 8],
     to: &'a [usize; 8],
-    qstream: &[u64],
-    qrow: &[u64],
+    queue: &[[u64; 4]],
 ) -> bool
-    requires { ⌜ Sound ring × (length (now qstream) ≡ ring .room) × (length (now qrow) ≡ ring .room) × (streams ≤ 8) ⌝ }
-    ensures { λ r. ⌜ ((starts stops : List ℕ) → r ≡ slotsNamed streams (now (from .entry)) (now (to .entry)) ring (cells (now (qstream .entry)) (now (qrow .entry)) starts stops)) ⌝ }
+    requires { ⌜ Fair ring (now queue) × (streams ≤ 8) ⌝ }
+    ensures { λ r. ⌜ r ≡ slotsNamed streams (now (from .entry)) (now (to .entry)) ring (now (queue .entry)) ⌝ }
 {
     let head = ring.head;
     let len = ring.len;
@@ -140,7 +123,7 @@ fn slots_named<'a>(
     let mut k: usize = 0;
     while k < len {
         let at = queue::place_of(head, room, k);
-        if !slot_named(streams, from, to, qstream[at], qrow[at]) {
+        if !slot_named(streams, from, to, queue[at][0], queue[at][1]) {
             return false;
         }
         k += 1;
@@ -185,10 +168,10 @@ pub fn judge(lengths: &[u64], stage: Stage, b: Base) -> Gate
     ensures { λ r. ⌜ r ≡ judgedOf (judge (lengthsOf (now (lengths .entry))) (lastOf stage) b) ⌝ }
 {
     let c = b.chrom;
-    if number(lengths.len()) <= c.0 {
+    if measures::number(lengths.len()) <= c.0 {
         return Gate::Shut(Refusal::Unlisted);
     }
-    let at = place_in(c.0);
+    let at = measures::place_in(c.0);
     let length = lengths[at];
     if b.stop < b.start {
         return Gate::Shut(Refusal::Reversed);
@@ -202,41 +185,30 @@ pub fn judge(lengths: &[u64], stage: Stage, b: Base) -> Gate
     Gate::Open
 }
 
-// Whether a base is let in to a run that goes on: 1, then 4, 6, 3, 5. The queue's starts and stops are not looked at, so the answer is right
-// whatever these are.
-pub fn admit<'a>(
+// Whether 1 is not due: of the run's numbers and arrays, the lengths of all that is lent, and the queue's memory.
+pub fn is_right<'a>(
     streams: usize,
     chroms: usize,
     ring: Ring,
-    stage: Stage,
-    ended: &'a [bool; 8],
+    ended: &'a [u64; 8],
     row: &'a [u64; 8],
     next: &'a [usize; 8],
     from: &'a [usize; 8],
     to: &'a [usize; 8],
     l: Lens,
-    lengths: &[u64],
-    qstream: &[u64],
-    qrow: &[u64],
-    b: Base,
-) -> Gate
-    requires { ⌜ (length (now qstream) ≡ l .qstream) × (length (now qrow) ≡ l .qrow) ⌝ }
-    ensures { λ r. ⌜ ((starts stops : List ℕ) → r ≡ gateOf
-        (right l streams chroms ring (now (ended .entry)) (now (row .entry)) (now (next .entry)) (now (from .entry)) (now (to .entry))
-        (cells (now (qstream .entry)) (now (qrow .entry)) starts stops))
-        (judge (lengthsOf (now (lengths .entry))) (lastOf stage) b)) ⌝ }
+    queue: &[[u64; 4]],
+) -> bool
+    requires { ⌜ length (now queue) ≡ l .queue ⌝ }
+    ensures { λ r. ⌜ r ≡ right l streams chroms ring (now (ended .entry)) (now (row .entry)) (now (next .entry)) (now (from .entry)) (now (to .entry)) (now (queue .entry)) ⌝ }
 {
-    if !is_sized(streams, chroms, ring, l) {
-        return Gate::Shut(Refusal::Sizes);
+    if !is_measured(streams, chroms, ring, l) {
+        return false;
     }
     if !heads::is_placed(streams, next, from, to, l.chrom, l.start, l.stop) {
-        return Gate::Shut(Refusal::Sizes);
+        return false;
     }
     if !heads_named(streams, ended, row, from, to) {
-        return Gate::Shut(Refusal::Sizes);
+        return false;
     }
-    if !slots_named(ring, streams, from, to, qstream, qrow) {
-        return Gate::Shut(Refusal::Sizes);
-    }
-    judge(lengths, stage, b)
+    slots_named(ring, streams, from, to, queue)
 }

@@ -8,10 +8,10 @@ use native.Mathlib.Nat.{zero-add}
 use lib.ListN.{length, getD, drop, length-drop}
 use lib.Dec.{leb, eqb}
 use borrow.Author.Tests.{le-leb, lt-leb, eq-eqb, ne-eqb}
-use Rattle.text.specs.Names.{part, within, names, numberIn}
-use Rattle.text.proofs.Both.{and-no}
-use Rattle.text.proofs.Scan.{rest-none}
-use Rattle.text.proofs.Naming.{within-even, within-from, within-low, within-high, names-cons, names-length, part-length}
+use Rattle.fields.specs.Names.{part, within, names, numberIn}
+use Rattle.fields.proofs.Both.{and-no}
+use Rattle.fields.proofs.Scan.{rest-none}
+use Rattle.fields.proofs.Naming.{within-even, within-from, within-low, within-high, names-cons, names-length, part-length}
 use Rattle.chroms.specs.Check.{counted, named, absent, allNamed, fineAt, checkOf, foundOf}
 use Rattle.chroms.specs.declared.Check.the-variants.{Fine, Sizes, Names}
 use Rattle.chroms.specs.declared.Lookup.the-variants.{Number, Refused}

@@ -4,14 +4,14 @@ use mathlib.Core.Path.{_≡_, refl, sym, ap, _∙_}
 use mathlib.Core.List.{List, [], _∷_}
 use native.Mathlib.Omega.{arith}
 use lib.ListN.{length, getD, drop}
-use Rattle.text.specs.Cut.{cut}
-use Rattle.text.specs.Number.{Read, good, bad, numberOf}
-use Rattle.text.specs.Table.{readText}
+use Rattle.fields.specs.Cut.{cut}
+use Rattle.fields.specs.Number.{Read, good, bad, numberOf}
+use Rattle.fields.specs.Table.{readText}
 use borrow.Author.Tests.{eq-eqb}
-use Rattle.text.specs.Scan.{lineAt, fieldAt, nextLine, numberAt, FieldTo}
-use Rattle.text.specs.declared.Number.the-variants.{Value, Bad}
-use Rattle.text.proofs.Lines.{further, field-to, fields-are, fields-none, fields-out, fields-tab, next-none, next-lf, next-tab, stops-lf, stops-tab}
-use Rattle.text.proofs.Numbers.{number-bad, number-good, number-to}
+use Rattle.fields.specs.Scan.{lineAt, fieldAt, nextLine, numberAt, FieldTo}
+use Rattle.fields.specs.declared.Number.the-variants.{Value, Bad}
+use Rattle.fields.proofs.Lines.{further, field-to, fields-are, fields-none, fields-out, fields-tab, next-none, next-lf, next-tab, stops-lf, stops-tab}
+use Rattle.fields.proofs.Numbers.{number-bad, number-good, number-to}
 use Rattle.chroms.specs.Entry.{unknown, entry, sized, entryFrom, entryOf, listFound, ReadsLine, gives, leads}
 use Rattle.chroms.specs.declared.Entry.{Entry}
 use Rattle.chroms.specs.declared.Line.{Line}

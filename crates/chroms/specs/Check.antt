@@ -4,7 +4,7 @@ use mathlib.Core.List.{List, [], _∷_}
 use mathlib.Core.Bool.{Bool, true, cond, _&&_}
 use lib.ListN.{length, getD, drop}
 use lib.Dec.{leb, eqb}
-use Rattle.text.specs.Names.{part, within, names, numberIn}
+use Rattle.fields.specs.Names.{part, within, names, numberIn}
 use Rattle.chroms.specs.declared.Check.{Check}
 use Rattle.chroms.specs.declared.Check.the-variants.{Fine, Sizes, Names}
 use Rattle.chroms.specs.declared.Lookup.{Lookup}

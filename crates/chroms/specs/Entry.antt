@@ -5,10 +5,10 @@ use mathlib.Core.List.{List, [], _∷_}
 use mathlib.Core.Bool.{_&&_}
 use lib.ListN.{length}
 use lib.Dec.{eqb}
-use Rattle.text.specs.Cut.{fields}
-use Rattle.text.specs.Number.{Read, good, bad, numberOf}
-use Rattle.text.specs.Table.{Found, readText, tested}
-use Rattle.text.specs.Scan.{lineAt, nextLine}
+use Rattle.fields.specs.Cut.{fields}
+use Rattle.fields.specs.Number.{Read, good, bad, numberOf}
+use Rattle.fields.specs.Table.{Found, readText, tested}
+use Rattle.fields.specs.Scan.{lineAt, nextLine}
 use Rattle.chroms.specs.declared.Entry.{Entry}
 use Rattle.chroms.specs.declared.Line.{Line}
 use Rattle.chroms.specs.declared.Line.the-variants.{Is, Not}

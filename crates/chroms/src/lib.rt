@@ -3,13 +3,14 @@ ghost use mathlib.Core.Path.{_≡_};
 ghost use Prim.Native.Nat.{_≤_, _<_};
 ghost use mathlib.Core.Bool.{true};
 ghost use lib.ListN.{length, getD};
-ghost use Rattle.text.specs.Names.{within, names};
-ghost use Rattle.text.specs.Scan.{FieldTo};
-ghost use Rattle.text.specs.Table.{Fills};
+ghost use Rattle.fields.specs.Names.{within, names};
+ghost use Rattle.fields.specs.Scan.{FieldTo};
+ghost use Rattle.fields.specs.Table.{Fills};
 ghost use Rattle.chroms.specs.Entry.{ReadsLine, listFound, fromOf, toOf, lenOf};
 ghost use Rattle.chroms.specs.Check.{fineAt, allNamed, checkOf, foundOf};
-use text::Number;
-use text::Reading;
+use fields::Number;
+use fields::Reading;
+use rules::Settings;
 
 // The length of a chromosome whose line has none.
 pub const UNKNOWN: u64 = 18446744073709551615;
@@ -32,7 +33,7 @@ fn length_at(text: &[u8], at: usize, a: usize) -> Line
     requires { ⌜ FieldTo (now text) at a × (a < length (now text)) × (getD (now text) a 0 ≡ 9) ⌝ }
     ensures { λ r. ⌜ ReadsLine (now (text .entry)) at r ⌝ }
 {
-    let n = text::number_at(text, a + 1);
+    let n = fields::number_at(text, a + 1);
     match n {
         Number::Bad => Line::Not,
         Number::Value(v, b) => {
@@ -57,7 +58,7 @@ fn line_at(text: &[u8], at: usize) -> Line
     requires { ⌜ at ≤ length (now text) ⌝ }
     ensures { λ r. ⌜ ReadsLine (now (text .entry)) at r ⌝ }
 {
-    let a = text::field_end(text, at);
+    let a = fields::field_end(text, at);
     let e = Entry {
         from: at,
         to: a,
@@ -88,7 +89,7 @@ pub fn read_list(text: &[u8], from: &mut [usize], to: &mut [usize], len: &mut [u
     let mut n: usize = 0;
     let mut at: usize = 0;
     while at < end {
-        let p = text::past(text, at);
+        let p = fields::past(text, at);
         if at < p {
             at = p;
             continue;
@@ -136,7 +137,7 @@ fn is_fine(text: &[u8], from: &[usize], to: &[usize], k: usize) -> bool
     if 255 < size {
         return false;
     }
-    let found = text::find_in(text, from, to, k + 1, &text[f..t]);
+    let found = fields::find_in(text, from, to, k + 1, &text[f..t]);
     if found == from.len() {
         return true;
     }
@@ -163,14 +164,14 @@ fn are_fine(text: &[u8], from: &[usize], to: &[usize]) -> bool
 pub fn check_list(text: &[u8], from: &[usize], to: &[usize]) -> Check
     ensures { λ r. ⌜ r ≡ checkOf (now (text .entry)) (now (from .entry)) (now (to .entry)) ⌝ }
 {
-    if !text::all_within(text.len(), from, to) {
+    if !fields::all_within(text.len(), from, to) {
         return Check::Sizes;
     }
     let count = from.len();
     if count == 0 {
         return Check::Sizes;
     }
-    if 256 < count {
+    if Settings::CHROMS < count {
         return Check::Sizes;
     }
     if are_fine(text, from, to) {
@@ -183,8 +184,8 @@ pub fn check_list(text: &[u8], from: &[usize], to: &[usize]) -> Check
 pub fn find_name(text: &[u8], from: &[usize], to: &[usize], name: &[u8]) -> Lookup
     ensures { λ r. ⌜ r ≡ foundOf (now (text .entry)) (now (from .entry)) (now (to .entry)) (now (name .entry)) ⌝ }
 {
-    if text::all_within(text.len(), from, to) {
-        return Lookup::Number(text::find_in(text, from, to, 0, name));
+    if fields::all_within(text.len(), from, to) {
+        return Lookup::Number(fields::find_in(text, from, to, 0, name));
     }
     Lookup::Refused
 }

@@ -8,12 +8,12 @@ use Prim.Native.Nat.{ℕ, _-_, _<_}
 use native.Mathlib.Omega.{arith}
 use native.Mathlib.Nat.{zero-add}
 use lib.ListN.{length, getD}
-use Rattle.lists.specs.Build.{build, upto}
-use Rattle.lists.specs.Lists.{All, nil, cons}
-use Rattle.lists.proofs.BoolLaws.{clash}
-use Rattle.lists.proofs.BuildLaws.{build-get, build-length}
-use Rattle.lists.proofs.EdgeLaws.{all-build}
-use Rattle.lists.proofs.ListLaws.{all-head, all-map}
+use Rattle.basics.specs.Build.{build}
+use Rattle.basics.specs.Lists.{All, nil, cons}
+use Rattle.basics.proofs.BoolLaws.{clash}
+use Rattle.basics.proofs.BuildLaws.{build-get, build-length}
+use Rattle.basics.proofs.EdgeLaws.{all-build}
+use Rattle.basics.proofs.ListLaws.{all-head, all-map}
 use Rattle.rules.specs.declared.Base.{Base}
 use Rattle.rules.specs.declared.End.{End}
 use Rattle.rules.specs.declared.Stage.{Stage}
@@ -21,8 +21,9 @@ use Rattle.rules.specs.declared.Stage.the-variants.{Fresh, After, Over}
 use Rattle.rules.specs.Rows.{Record}
 use Rattle.rules.specs.Call.{Reply, found, refused, ended, byStage, give}
 use Rattle.theory.proofs.MergeLaws.{Each}
-use Rattle.heads.specs.declared.Heads.{Heads}
-use Rattle.heads.specs.View.{Cols, rowAt, unlessEnded, behindAt, headAt, restAt, restsOf, freshOf}
+use Rattle.heads.specs.View.{Heads}
+use Rattle.heads.specs.View.{Cols, rowAt, behindAt, headAt, restAt, restsOf, freshOf}
+use Rattle.least.specs.Fours.{unlessEnded, ended?}
 use Rattle.heads.specs.Move.{Placed, Shaped}
 use Rattle.heads.proofs.TurnLaws.{Turning}
 use Rattle.queue.specs.Ring.{Cells, Fair, waiting}
@@ -30,17 +31,19 @@ use Rattle.queue.proofs.Calls.{fresh-fair, fresh-none}
 use Rattle.admit.specs.Gates.{lengthsOf}
 use Rattle.admit.specs.Right.{named}
 use Rattle.admit.proofs.RightLaws.{named-place}
-use Rattle.sweep.specs.declared.Run.{Run}
-use Rattle.sweep.specs.declared.Given.{Given}
-use Rattle.sweep.specs.declared.start.Begins.{Begins}
-use Rattle.sweep.specs.declared.start.Begins.the-variants.{Begun}
-use Rattle.sweep.specs.View.{headsOf, runWith, leftBy, runOf, overOf}
+use Rattle.runs.specs.declared.Run.{Run}
+use Rattle.runs.specs.declared.Given.{Given}
+use Rattle.runs.specs.declared.start.Begins.{Begins}
+use Rattle.runs.specs.declared.start.Begins.the-variants.{Begun}
+use Rattle.runs.specs.View.{headsOf, runWith, leftBy, runOf, overOf, stageOf, ringOf}
 use Rattle.pulls.specs.Pulls.{drawnTo, Found, Lent, lent}
-use Rattle.sweep.specs.Settle.{endedBy, runBy, Going}
-use Rattle.sweep.specs.Give.{rightOf, givenOf, openedBy, Gives}
-use Rattle.sweep.specs.Start.{Plan, runFrom, startOf, Lends}
-use Rattle.sweep.proofs.ViewLaws.{eight-at}
-use Rattle.sweep.proofs.StartLaws.{begun-right}
+use Rattle.step.specs.Settle.{endedBy, runBy, Going}
+use Rattle.step.specs.Give.{openedBy, Gives}
+use Rattle.runs.specs.Comes.{rightOf, givenOf}
+use Rattle.runs.specs.Start.{Plan, runFrom, startOf, Lends}
+use Rattle.runs.proofs.ViewLaws.{eight-at}
+use Rattle.runs.proofs.MarkLaws.{stage-back}
+use Rattle.runs.proofs.StartLaws.{begun-right}
 use Rattle.demands.specs.Calls.{Unheeded, Calls, none, call, unheeded, Runs, Blameless, SizedAs, lastRun, lastCells}
 use Rattle.demands.proofs.KeptLaws.{each-all, Holds, give-holds}
 use Rattle.demands.proofs.RangedLaws.{Ranged, drawn-ranged}
@@ -50,35 +53,35 @@ use Rattle.demands.proofs.RunAnswers.{FitsOf, fits-so, right-so, right-
 
 -- a record that names one of a run's streams, and a row of it
 abbrev Named : Run → Record → Type 0
-Named r a = named (r .streams) (r .from) (r .to) (a .stream .0) (a .row) ≡ true
+Named r a = named (r .settings .streams) (r .from) (r .to) (a .stream .0) (a .row) ≡ true
 
 module _ (s : Cols) (lengths : List ℕ) (r : Run) (l : Lent) (f : FitsOf s lengths r l) where
   -- the rows behind a head stand in its stream's range, and the head is one that 1 looks at
-  behind-named : (k : ℕ) → k < r .streams → All (Named r) (behindAt s (headsOf r) k)
+  behind-named : (k : ℕ) → k < r .settings .streams → All (Named r) (behindAt s (headsOf r) k)
   behind-named k h =
       all-build (rowAt s (getD (r .from) k 0) k) (getD (r .to) k 0 - getD (r .next) k 0) (getD (r .next) k 0)
-      (λ p a b. named-place (r .streams) (r .from) (r .to) k p h (omega (arith, f .placed .low k h)) (omega arith))
+      (λ p a b. named-place (r .settings .streams) (r .from) (r .to) k p h (omega (arith, f .placed .low k h)) (omega arith))
 
-  rest-named : (k : ℕ) → k < r .streams → All (Named r) (restAt s (headsOf r) k)
-  rest-named k h = go (getD (r .ended) k false) refl
+  rest-named : (k : ℕ) → k < r .settings .streams → All (Named r) (restAt s (headsOf r) k)
+  rest-named k h = go (ended? (getD (r .ended) k 0)) refl
     where
-      go : (t : Bool) → getD (r .ended) k false ≡ t → All (Named r) (unlessEnded t (headAt (headsOf r) k ∷ behindAt s (headsOf r) k))
+      go : (t : Bool) → ended? (getD (r .ended) k 0) ≡ t → All (Named r) (unlessEnded t (headAt (headsOf r) k ∷ behindAt s (headsOf r) k))
       go true e = nil
       go false e = cons (f .heads k h e) (behind-named k h)
 
   rests-named : Each (All (Named r)) (restsOf s (headsOf r))
   unfolding restsOf
-  rests-named = each-all (Named r) (all-build (restAt s (headsOf r)) (r .streams) 0 (λ k a b. rest-named k (omega arith)))
+  rests-named = each-all (Named r) (all-build (restAt s (headsOf r)) (r .settings .streams) 0 (λ k a b. rest-named k (omega arith)))
 
   -- so of all that is left of a run, by how it stands
   left-named : (t : Stage) → Each (All (Named r)) (leftBy t s (headsOf r))
   unfolding freshOf
-  left-named Fresh = each-all (Named r) (all-build (behindAt s (headsOf r)) (r .streams) 0 (λ k a b. behind-named k (omega arith)))
+  left-named Fresh = each-all (Named r) (all-build (behindAt s (headsOf r)) (r .settings .streams) 0 (λ k a b. behind-named k (omega arith)))
   left-named (After p) = rests-named
   left-named (Over e) = rests-named
 
 -- a fact of all that is left is one of the head of each stream that has not ended
-head-holds : (P : Record → Type 0) (s : Cols) (h : Heads) → Each (All P) (restsOf s h) → (k : ℕ) → k < h .streams → getD (h .ended) k false ≡ false → P (headAt h k)
+head-holds : (P : Record → Type 0) (s : Cols) (h : Heads) → Each (All P) (restsOf s h) → (k : ℕ) → k < h .streams → ended? (getD (h .ended) k 0) ≡ false → P (headAt h k)
 unfolding restsOf
 head-holds P s h each k below goes-on =
     let is : getD (build (restAt s h) (h .streams) 0) k [] ≡ headAt h k ∷ behindAt s h k =
@@ -89,7 +92,7 @@ head-holds P s h each k below goes-on =
 
 -- each array of a run that goes on has its eight places
 abbrev pub Whole : Run → Type 0
-Whole r = Going (r .stage) → Shaped (headsOf r)
+Whole r = Going (stageOf r) → Shaped (headsOf r)
 
 -- the run u, with its queue's memory d, comes back from calls of r
 pub record Returns (s : Cols) (lengths : List ℕ) (r u : Run) (d : Cells) : Type 0 where
@@ -104,9 +107,9 @@ sized-trans : {r u v : Run} → SizedAs r u → SizedAs u v → SizedAs r v
 sized-trans a z = record { streams = z .streams ∙ a .streams; chroms = z .chroms ∙ a .chroms; room = z .room ∙ a .room; from = z .from ∙ a .from; to = z .to ∙ a .to }
 
 -- from what a run kept to, and what the run u after it names
-blameless-by : (s : Cols) (lengths : List ℕ) (r : Run) (l : Lent) → FitsOf s lengths r l → (u : Run) (d : Cells) → SizedAs r u → Placed s (u .streams) (u .next) (u .from) (u .to) → Fair (u .ring) d
-    → ((k : ℕ) → k < u .streams → getD (u .ended) k false ≡ false → Named r (headAt (headsOf u) k)) → All (Named r) (waiting (u .ring) d) → Blameless s lengths u d
-blameless-by s lengths r l f u d z placed fair heads slots ss rs enough paired = right-so s lengths u (lent d ss rs) (record {
+blameless-by : (s : Cols) (lengths : List ℕ) (r : Run) (l : Lent) → FitsOf s lengths r l → (u : Run) (d : Cells) → SizedAs r u → Placed s (u .settings .streams) (u .next) (u .from) (u .to) → Fair (ringOf u) d
+    → ((k : ℕ) → k < u .settings .streams → ended? (getD (u .ended) k 0) ≡ false → Named r (headAt (headsOf u) k)) → All (Named r) (waiting (ringOf u) d) → Blameless s lengths u d
+blameless-by s lengths r l f u d z placed fair heads slots answers enough = right-so s lengths u (lent d answers) (record {
   some = rw (z .streams) (f .some);
   few = rw (z .streams) (f .few);
   any = rw (z .chroms) (f .any);
@@ -114,7 +117,6 @@ blameless-by s lengths r l f u d z placed fair heads slots ss rs enough paired =
   lengths = f .lengths ∙ sym (z .chroms);
   fair = fair;
   answer = enough;
-  paired = sym paired;
   placed = placed;
   heads = λ k b e. named-again (headAt (headsOf u) k) (heads k b e);
   slots = all-map named-again slots;
@@ -123,37 +125,37 @@ blameless-by s lengths r l f u d z placed fair heads slots ss rs enough paired =
     named-again : (a : Record) → Named r a → Named u a
     named-again a h = rw (z .streams, z .from, z .to) h
 
--- where 1 is not due at one call, it is due at none but by the answer columns
+-- where 1 is not due at one call, it is due at none but by the answer rows
 pub right-blameless : (s : Cols) (lengths : List ℕ) (r : Run) (l : Lent) → rightOf s lengths r l ≡ true → Blameless s lengths r (l .cells)
 right-blameless s lengths r l e =
     let f : FitsOf s lengths r l = fits-so s lengths r l e in
     blameless-by s lengths r l f r (l .cells) (sized-same r) (f .placed) (f .fair) (f .heads) (f .slots)
 
 -- a base is answered only by a run that goes on
-found-going : (s : Cols) (lengths : List ℕ) (r : Run) (b : Base) (l : Lent) → Found (givenOf s lengths r b l .reply) → Going (r .stage)
+found-going : (s : Cols) (lengths : List ℕ) (r : Run) (b : Base) (l : Lent) → Found (givenOf s lengths r b l .reply) → Going (stageOf r)
 unfolding give
-found-going s lengths r b l = go (r .stage)
+found-going s lengths r b l = go (stageOf r)
   where
-    go : (t : Stage) → Found (byStage (lengthsOf lengths) (r .ring .room) (record { right = rightOf s lengths r l; rows = length (l .rows) }) (runOf s (l .cells) r) b t .reply) → Going t
+    go : (t : Stage) → Found (byStage (lengthsOf lengths) (r .settings .room) (record { right = rightOf s lengths r l; rows = length (l .answers) }) (runOf s (l .cells) r) b t .reply) → Going t
     go Fresh z = tt
     go (After p) z = tt
     go (Over e) z = z
 
 module _ (s : Cols) (lengths : List ℕ) (r : Run) (b : Base) (l : Lent) (g : Given) (l′ : Lent) (gives : Gives s lengths r b l g l′) (ok : Blameless s lengths r (l .cells)) (whole : Whole r) where
-  -- the run fits with good answer columns, whatever columns this call lends
+  -- the run fits with good answer rows, whatever rows this call lends
   abbrev m : Lent
-  m = lent (l .cells) (upto (r .ring .room)) (upto (r .ring .room))
+  m = lent (l .cells) (build (λ k. []) (r .settings .room) 0)
 
   fits : FitsOf s lengths r m
   fits =
-      let n : length (upto (r .ring .room)) ≡ r .ring .room = build-length (λ k. k) (r .ring .room) 0 in
-      fits-so s lengths r m (ok (upto (r .ring .room)) (upto (r .ring .room)) (omega arith) refl)
+      let n : length (m .answers) ≡ r .settings .room = build-length (λ k. []) (r .settings .room) 0 in
+      fits-so s lengths r m (ok (m .answers) (omega arith))
 
   -- all that is left after the call, and all that waits
   names : Holds (Named r) (runOf s (l′ .cells) (g .run))
   names =
       subst (Holds (Named r)) (sym (gives .settles .run))
-      (give-holds (Named r) (lengthsOf lengths) (r .ring .room) (record { right = rightOf s lengths r l; rows = length (l .rows) }) (runOf s (l .cells) r) b (left-named s lengths r m fits (r .stage), fits .slots))
+      (give-holds (Named r) (lengthsOf lengths) (r .settings .room) (record { right = rightOf s lengths r l; rows = length (l .answers) }) (runOf s (l .cells) r) b (left-named s lengths r m fits (stageOf r), fits .slots))
 
   -- "run unchanged"
   returns-same : g .run ≡ r → l′ ≡ l → Returns s lengths r (g .run) (l′ .cells)
@@ -164,26 +166,26 @@ module _ (s : Cols) (lengths : List ℕ) (r : Run) (b : Base) (l : Lent) (g : Gi
   returns-over e p =
       let sizes : SizedAs r (overOf r e) = record { streams = refl; chroms = refl; room = refl; from = refl; to = refl } in
       let kept = gives .settles .kept in
-      let fair : Fair (overOf r e .ring) (l′ .cells) =
-      fresh-fair (r .ring .room) (r .ring .chrom) (l′ .cells) (omega (arith, fits .fair .sound .inside)) (fits .fair .sound .small) (kept .stream ∙ fits .fair .streams) (kept .row ∙ fits .fair .rows) (kept .start ∙ fits .fair .starts) (kept .stop ∙ fits .fair .stops) in
+      let fair : Fair (ringOf (overOf r e)) (l′ .cells) =
+      fresh-fair (r .settings .room) (record { 0 = 0 }) (l′ .cells) (omega (arith, fits .fair .sound .inside)) (fits .fair .sound .small) (kept ∙ fits .fair .slots) in
       rw p (record {
         blameless =
             blameless-by s lengths r m fits (overOf r e) (l′ .cells) sizes
             (record { few = fits .few; starts = fits .placed .starts; stops = fits .placed .stops; low = λ k h. omega arith; high = fits .placed .high })
-            fair (λ k h goes-on. clash (eight-at true false k (omega (arith, fits .few, h))) goes-on)
-            (rw (fresh-none (r .ring .room) (r .ring .chrom) (l′ .cells)) nil);
+            fair (λ k h goes-on. clash (ap ended? (eight-at {A = ℕ} 1 0 k (omega (arith, fits .few, h)))) goes-on)
+            (rw (fresh-none (r .settings .room) (record { 0 = 0 }) (l′ .cells)) nil);
         sized = sizes;
-        whole = λ z. absurd z;
+        whole = λ z. absurd (subst Going (stage-back (Over e)) z);
       })
 
   -- the base was answered
-  returns-found : Shaped (headsOf r) → g .run ≡ runWith r (drawnTo s (r .chroms) b (openedBy (r .stage) s (headsOf r))) (g .run .ring) (After b) → Fair (g .run .ring) (l′ .cells) → Returns s lengths r (g .run) (l′ .cells)
+  returns-found : Shaped (headsOf r) → g .run ≡ runWith r (drawnTo s (r .settings .chroms) b (openedBy (stageOf r) s (headsOf r))) (ringOf (g .run)) (After b) → Fair (ringOf (g .run)) (l′ .cells) → Returns s lengths r (g .run) (l′ .cells)
   returns-found shaped p fair =
-      let d : Ranged s (headsOf r) (drawnTo s (r .chroms) b (openedBy (r .stage) s (headsOf r))) = drawn-ranged s (r .chroms) b (r .stage) (headsOf r) (record { placed = fits .placed; shaped = shaped }) in
+      let d : Ranged s (headsOf r) (drawnTo s (r .settings .chroms) b (openedBy (stageOf r) s (headsOf r))) = drawn-ranged s (r .settings .chroms) b (stageOf r) (headsOf r) (record { placed = fits .placed; shaped = shaped }) in
       let w : Turning s (headsOf (g .run)) = subst (Turning s) (sym (ap headsOf p)) (d .turning) in
       let sizes : SizedAs r (g .run) =
-      record { streams = ap (λ (x : Run). x .streams) p ∙ d .streams; chroms = ap (λ (x : Run). x .chroms) p; room = gives .settles .room; from = ap (λ (x : Run). x .from) p ∙ d .from; to = ap (λ (x : Run). x .to) p ∙ d .to } in
-      let rests : Each (All (Named r)) (restsOf s (headsOf (g .run))) = subst (λ (t : Stage). Each (All (Named r)) (leftBy t s (headsOf (g .run)))) (ap (λ (x : Run). x .stage) p) (names .0) in
+      record { streams = ap (λ (x : Run). x .settings .streams) p ∙ d .streams; chroms = ap (λ (x : Run). x .settings .chroms) p; room = gives .settles .room; from = ap (λ (x : Run). x .from) p ∙ d .from; to = ap (λ (x : Run). x .to) p ∙ d .to } in
+      let rests : Each (All (Named r)) (restsOf s (headsOf (g .run))) = subst (λ (t : Stage). Each (All (Named r)) (leftBy t s (headsOf (g .run)))) (ap (λ (x : Run). stageOf x) p) (names .0) in
       record {
         blameless = blameless-by s lengths r m fits (g .run) (l′ .cells) sizes (w .placed) fair (head-holds (Named r) s (headsOf (g .run)) rests) (names .1);
         sized = sizes;
@@ -194,15 +196,15 @@ module _ (s : Cols) (lengths : List ℕ) (r : Run) (b : Base) (l : Lent) (g : Gi
   pub returns : Returns s lengths r (g .run) (l′ .cells)
   returns = by-reply (givenOf s lengths r b l .reply) refl (gives .settles .exact)
     where
-      by-stage : (e : End) (t : Stage) → r .stage ≡ t → g .run ≡ endedBy t r e → Returns s lengths r (g .run) (l′ .cells)
+      by-stage : (e : End) (t : Stage) → stageOf r ≡ t → g .run ≡ endedBy t r e → Returns s lengths r (g .run) (l′ .cells)
       by-stage e Fresh i p = returns-over e p
       by-stage e (After a) i p = returns-over e p
       by-stage e (Over x) i p = returns-same p (gives .again x i)
 
-      by-reply : (t : Reply) → givenOf s lengths r b l .reply ≡ t → g .run ≡ runBy t b (drawnTo s (r .chroms) b (openedBy (r .stage) s (headsOf r))) r (g .run .ring) → Returns s lengths r (g .run) (l′ .cells)
+      by-reply : (t : Reply) → givenOf s lengths r b l .reply ≡ t → g .run ≡ runBy t b (drawnTo s (r .settings .chroms) b (openedBy (stageOf r) s (headsOf r))) r (ringOf (g .run)) → Returns s lengths r (g .run) (l′ .cells)
       by-reply (found hits o) i p = let z : Found (givenOf s lengths r b l .reply) = subst Found (sym i) tt in returns-found (whole (found-going s lengths r b l z)) p (gives .settles .fair z)
       by-reply (refused x) i p = returns-same p (gives .still x i)
-      by-reply (ended e) i p = by-stage e (r .stage) refl p
+      by-reply (ended e) i p = by-stage e (stageOf r) refl p
 
 -- the same of a call at which 1 was not due and the base was answered
 pub comes-back : (s : Cols) (lengths : List ℕ) (r : Run) (b : Base) (l : Lent) (g : Given) (l′ : Lent) → Gives s lengths r b l g l′ → rightOf s lengths r l ≡ true → Shaped (headsOf r)
@@ -211,8 +213,8 @@ comes-back s lengths r b l g l′ gives right shaped answered =
     let back : Returns s lengths r (g .run) (l′ .cells) = returns s lengths r b l g l′ gives (right-blameless s lengths r l right) (λ z. shaped) in
     (back .blameless, back .whole (goes-on (givenOf s lengths r b l .reply) answered (gives .settles .exact)))
   where
-    goes-on : (t : Reply) → Found t → g .run ≡ runBy t b (drawnTo s (r .chroms) b (openedBy (r .stage) s (headsOf r))) r (g .run .ring) → Going (g .run .stage)
-    goes-on (found hits o) z p = subst Going (sym (ap (λ (x : Run). x .stage) p)) tt
+    goes-on : (t : Reply) → Found t → g .run ≡ runBy t b (drawnTo s (r .settings .chroms) b (openedBy (stageOf r) s (headsOf r))) r (ringOf (g .run)) → Going (stageOf (g .run))
+    goes-on (found hits o) z p = subst Going (sym (ap (λ (x : Run). stageOf x) p)) tt
     goes-on (refused x) z p = absurd z
     goes-on (ended e) z p = absurd z
 
@@ -229,16 +231,14 @@ returns-on {s} {lengths} {r} {u} {b} {l} {g} {l′} {d} gives ok whole on =
 -- the last of the calls
 calls-return : {s : Cols} {lengths : List ℕ} {r : Run} {c : Cells} {bs : List Base} {ts : List Reply} (k : Calls s lengths r c bs ts) → Blameless s lengths r c → Whole r → Returns s lengths r (lastRun k) (lastCells k)
 calls-return (none {r = r}) ok whole = record { blameless = ok; sized = sized-same r; whole = whole }
-calls-return (call ss rs g l′ gives heeded k) ok whole = returns-on gives ok whole (λ x y. calls-return k x y)
-calls-return (unheeded ss rs g l′ gives u k) ok whole = returns-on gives ok whole (λ x y. calls-return k x y)
+calls-return (call answers g l′ gives heeded k) ok whole = returns-on gives ok whole (λ x y. calls-return k x y)
+calls-return (unheeded answers g l′ gives u k) ok whole = returns-on gives ok whole (λ x y. calls-return k x y)
 
 -- A run that begins by p, and its calls. Where the streams' rows begin stands in eight places, as the array's type says; the lengths and the queue's
--- memory are those of the start, and with the two answer columns that one more call lends they are as much as the sizes ask.
-module _ (p : Plan) (lengths : List ℕ) (bs : List Base) (ts : List Reply) (k : Runs p lengths bs ts) (places : length (p .from) ≡ 8) (ss rs : List ℕ) (d : Lends p lengths (lent (k .cells) ss rs)) where
+-- memory are those of the start, and with the answer rows that one more call lends they are as much as the sizes ask.
+module _ (p : Plan) (lengths : List ℕ) (bs : List Base) (ts : List Reply) (k : Runs p lengths bs ts) (places : length (p .from) ≡ 8) (answers : List (List ℕ)) (d : Lends p lengths (lent (k .cells) answers)) where
   begun-blameless : Blameless (p .cols) lengths (startOf p .run) (k .cells)
-  begun-blameless streams rows enough paired =
-      begun-right p (k .begun) lengths (lent (k .cells) streams rows)
-      (record { listed = d .listed; stream = d .stream; row = d .row; start = d .start; stop = d .stop; answer = rw (k .begun) at enough; paired = paired })
+  begun-blameless rows enough = begun-right p (k .begun) lengths (lent (k .cells) rows) (record { listed = d .listed; slots = d .slots; answer = rw (k .begun) at enough })
 
   begun-whole : Whole (startOf p .run)
   begun-whole = rw (k .begun) (λ z. record { chrom = refl; start = refl; stop = refl; row = refl; ended = refl; next = places })
@@ -251,9 +251,9 @@ module _ (p : Plan) (lengths : List ℕ) (bs : List Base) (ts : List Reply) (k :
   calls-sized = subst (λ (x : Begins). SizedAs (runFrom x p) (lastRun (k .calls))) (k .begun) (begun-returns .sized)
 
   -- "and naming, in heads and queue, dead slots too where these are looked at, only lent streams and rows"
-  pub calls-right : rightOf (p .cols) lengths (lastRun (k .calls)) (lent (lastCells (k .calls)) ss rs) ≡ true
-  calls-right = begun-returns .blameless ss rs (rw (calls-sized .room) (d .answer)) (d .paired)
+  pub calls-right : rightOf (p .cols) lengths (lastRun (k .calls)) (lent (lastCells (k .calls)) answers) ≡ true
+  calls-right = begun-returns .blameless answers (rw (calls-sized .room) (d .answer))
 
   -- "1 is then due only to what that call is newly given": one more call, of any base, is not answered by 1
-  pub calls-heeded : (b : Base) (g : Given) (l′ : Lent) → Gives (p .cols) lengths (lastRun (k .calls)) b (lent (lastCells (k .calls)) ss rs) g l′ → Unheeded g → ⊥
-  calls-heeded b g l′ gives u = right-heeded (p .cols) lengths (lastRun (k .calls)) b (lent (lastCells (k .calls)) ss rs) g calls-right (gives .settles .answer) u
+  pub calls-heeded : (b : Base) (g : Given) (l′ : Lent) → Gives (p .cols) lengths (lastRun (k .calls)) b (lent (lastCells (k .calls)) answers) g l′ → Unheeded g → ⊥
+  calls-heeded b g l′ gives u = right-heeded (p .cols) lengths (lastRun (k .calls)) b (lent (lastCells (k .calls)) answers) g calls-right (gives .settles .answer) u

@@ -6,7 +6,7 @@ use mathlib.Core.List.{List, [], _∷_, _++_}
 use Prim.Native.Nat.{ℕ, _≤_}
 use lib.Dec.{eqb}
 use lib.ListN.{length, getD}
-use Rattle.lists.specs.Lists.{filter, All, Pairs}
+use Rattle.basics.specs.Lists.{filter, All, Pairs}
 use Rattle.rules.specs.declared.Base.{Base}
 use Rattle.rules.specs.declared.End.the-variants.{NoRoom}
 use Rattle.rules.specs.declared.Offer.the-variants.{Nothing}
@@ -22,7 +22,7 @@ use Rattle.rules.specs.Demands.{ValidStreams, Spot, Accepted, replyAt, RoomEnou
 use Rattle.theory.proofs.Answers.{answers-promised}
 use Rattle.theory.proofs.Demand2.{demand2}
 use Rattle.theory.proofs.Demand3.{demand3}
-use Rattle.sweep.specs.Start.{Plan}
+use Rattle.runs.specs.Start.{Plan}
 use Rattle.demands.specs.Calls.{jobOf, Runs}
 use Rattle.demands.proofs.RunAnswers.{run-answers}
 
@@ -59,12 +59,12 @@ module _ (p : Plan) (lengths : List ℕ) (bs : List Base) (ts : List Reply) (run
   calls-room ok at = ap (λ (l : List Reply). isNoRoom (replyAt at l)) (run-answers p lengths bs ts runs) ∙ demand3 .room j bs ok at
 
 -- "A larger Q agrees until a smaller one refuses.": two runs of one job but for their rooms
-pub calls-larger : (p q : Plan) (lengths : List ℕ) (bs : List Base) (ts us : List Reply) → Runs p lengths bs ts → Runs q lengths bs us → jobOf q lengths ≡ withRoom (jobOf p lengths) (q .room) → p .room ≤ q .room
+pub calls-larger : (p q : Plan) (lengths : List ℕ) (bs : List Base) (ts us : List Reply) → Runs p lengths bs ts → Runs q lengths bs us → jobOf q lengths ≡ withRoom (jobOf p lengths) (q .settings .room) → p .settings .room ≤ q .settings .room
     → Pairs (λ r s. (r ≡ ended NoRoom) ⊎ (r ≡ s)) ts us
 calls-larger p q lengths bs ts us k m same h =
     subst (λ (l : List Reply). Pairs (λ r s. (r ≡ ended NoRoom) ⊎ (r ≡ s)) l us) (sym (run-answers p lengths bs ts k))
     (subst (Pairs (λ r s. (r ≡ ended NoRoom) ⊎ (r ≡ s)) (answers (jobOf p lengths) bs)) (sym (run-answers q lengths bs us m ∙ ap (λ (x : Job). answers x bs) same))
-    (demand3 .larger (jobOf p lengths) (q .room) bs h))
+    (demand3 .larger (jobOf p lengths) (q .settings .room) bs h))
 
 -- "Take valid streams and bases whose rows are all valid and in order. A base source may leave out any bases that the last offered place permits.
 -- Every base given is then answered or refused as in the full run, and every base left out has no record there.": two runs of one job

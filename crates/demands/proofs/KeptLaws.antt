@@ -5,8 +5,8 @@ use mathlib.Core.List.{List, [], _∷_, _++_}
 use Prim.Native.Nat.{ℕ, zero, suc}
 use lib.Dec.{leb, ltb}
 use lib.ListN.{length}
-use Rattle.lists.specs.Lists.{total, filter, All, nil, cons}
-use Rattle.lists.proofs.ListLaws.{all-append, all-filter, all-head, all-mapped, all-of, all-tail}
+use Rattle.basics.specs.Lists.{total, filter, All, nil, cons}
+use Rattle.basics.proofs.ListLaws.{all-append, all-filter, all-head, all-mapped, all-of, all-tail}
 use Rattle.rules.specs.declared.Base.{Base}
 use Rattle.rules.specs.declared.End.{End}
 use Rattle.rules.specs.declared.End.the-variants.{NoRoom, NoRows}

@@ -2,20 +2,20 @@
 use mathlib.Core.Path.{_≡_, refl, _∙_}
 use Prim.Native.Nat.{ℕ, zero, suc}
 use native.Mathlib.Omega.{arith}
-use Rattle.lists.specs.Lists.{total}
+use Rattle.basics.specs.Lists.{total}
 use Rattle.rules.specs.declared.Base.{Base}
 use Rattle.rules.specs.declared.Stage.{Stage}
 use Rattle.rules.specs.declared.Stage.the-variants.{Fresh, After, Over}
-use Rattle.heads.specs.declared.Heads.{Heads}
 use Rattle.heads.specs.declared.Move.{Move}
 use Rattle.heads.specs.declared.Move.the-variants as move
-use Rattle.heads.specs.View.{Cols, restsOf}
-use Rattle.heads.specs.Move.{moved}
+use Rattle.heads.specs.declared.Then.the-variants as then
+use Rattle.heads.specs.View.{Cols, Heads, restsOf}
+use Rattle.heads.specs.Move.{moved, turnOf}
 use Rattle.heads.proofs.RestLaws.{moved-placed, moved-shaped}
 use Rattle.heads.proofs.TurnLaws.{Turning}
 use Rattle.heads.proofs.LoadLaws.{upto}
-use Rattle.pulls.specs.Pulls.{turnOf, afterTurns, drawnTo}
-use Rattle.sweep.specs.Give.{openedBy}
+use Rattle.pulls.specs.Pulls.{afterTurns, drawnTo}
+use Rattle.step.specs.Give.{openedBy}
 
 -- the heads g are in place, and of the streams of h
 pub record Ranged (s : Cols) (h g : Heads) : Type 0 where
@@ -47,8 +47,8 @@ module _ (s : Cols) where
         by-move : (m : Move) → Turning s (moved h m) → Ranged s h (moved h m)
         by-move (move.Stay x) v = ranged-same h v
         by-move (move.Wrong e) v = ranged-same h v
-        by-move (move.Ends t) v = record { turning = v; streams = refl; from = refl; to = refl }
-        by-move (move.Goes t x) v = record { turning = v; streams = refl; from = refl; to = refl }
+        by-move (move.Takes t then.Ends) v = record { turning = v; streams = refl; from = refl; to = refl }
+        by-move (move.Takes t (then.Goes x)) v = record { turning = v; streams = refl; from = refl; to = refl }
 
     turns-ranged : (k : ℕ) (h : Heads) → Turning s h → Ranged s h (afterTurns s n b k h)
     unfolding afterTurns

@@ -9,8 +9,8 @@ use native.Mathlib.Omega.{arith}
 use lib.Dec.{leb, ltb}
 use lib.ListN.{length, length-append, getD}
 use borrow.Author.Tests.{leb-false, le-ltb}
-use Rattle.lists.specs.Lists.{total, filter}
-use Rattle.lists.proofs.ListLaws.{length-filter}
+use Rattle.basics.specs.Lists.{total, filter}
+use Rattle.basics.proofs.ListLaws.{length-filter}
 use Rattle.rules.specs.declared.Base.{Base}
 use Rattle.rules.specs.declared.End.{End}
 use Rattle.rules.specs.declared.End.the-variants.{NoRoom, NoRows}

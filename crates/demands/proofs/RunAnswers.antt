@@ -21,16 +21,17 @@ use Rattle.queue.proofs.Waiting.{length-waiting}
 use Rattle.admit.specs.Gates.{lengthsOf}
 use Rattle.admit.specs.Fits.{Told, Fits}
 use Rattle.admit.proofs.RightLaws.{right-fits, fits-right}
-use Rattle.sweep.specs.declared.Run.{Run}
-use Rattle.sweep.specs.declared.Given.{Given}
-use Rattle.sweep.specs.declared.start.Begins.{Begins}
-use Rattle.sweep.specs.declared.start.Begins.the-variants.{Begun}
-use Rattle.sweep.specs.View.{headsOf, runOf}
+use Rattle.runs.specs.declared.Run.{Run}
+use Rattle.runs.specs.declared.Given.{Given}
+use Rattle.runs.specs.declared.start.Begins.{Begins}
+use Rattle.runs.specs.declared.start.Begins.the-variants.{Begun}
+use Rattle.runs.specs.View.{headsOf, runOf, ringOf, stageOf}
 use Rattle.pulls.specs.Pulls.{drawnTo, Lent, lent}
-use Rattle.sweep.specs.Settle.{runBy}
-use Rattle.sweep.specs.Give.{lensOf, rightOf, givenOf, openedBy, Gives}
-use Rattle.sweep.specs.Start.{Plan, streamsOf, runFrom, startOf}
-use Rattle.sweep.proofs.StartLaws.{begun-fresh}
+use Rattle.step.specs.Settle.{runBy}
+use Rattle.step.specs.Give.{openedBy, Gives}
+use Rattle.runs.specs.Comes.{lensOf, rightOf, givenOf}
+use Rattle.runs.specs.Start.{Plan, streamsOf, runFrom, startOf}
+use Rattle.runs.proofs.StartLaws.{begun-fresh}
 use Rattle.demands.specs.Calls.{Unheeded, Calls, none, call, unheeded, jobOf, Runs}
 use Rattle.demands.proofs.RowsLaws.{give-rows, give-over, give-wrong, give-heeded}
 
@@ -42,7 +43,7 @@ sizes-reply (ended x) e = let z : _≡_ {A = ℕ} 0 1 = cc in absurd (omega arit
 
 -- the facts behind 1's test, of a run and what is lent with a base
 abbrev pub FitsOf : Cols → List ℕ → Run → Lent → Type 0
-FitsOf s lengths r l = Fits (lensOf s lengths l) (r .streams) (r .chroms) (r .ring) (r .ended) (r .row) (r .next) (r .from) (r .to) (l .cells)
+FitsOf s lengths r l = Fits (lensOf s lengths l) (r .settings .streams) (r .settings .chroms) (ringOf r) (r .ended) (r .row) (r .next) (r .from) (r .to) (l .cells)
 
 module _ (s : Cols) (lengths : List ℕ) where
   -- ---- one call
@@ -50,63 +51,63 @@ module _ (s : Cols) (lengths : List ℕ) where
   -- 1 is not due exactly where all fits
   module _ (r : Run) (l : Lent) where
     told : Told (lensOf s lengths l) (l .cells)
-    told = record { streams = refl; rows = refl; starts = refl; stops = refl }
+    told = refl
 
     pub fits-so : rightOf s lengths r l ≡ true → FitsOf s lengths r l
-    fits-so e = right-fits (lensOf s lengths l) (r .streams) (r .chroms) (r .ring) (r .ended) (r .row) (r .next) (r .from) (r .to) (l .cells) told e
+    fits-so e = right-fits (lensOf s lengths l) (r .settings .streams) (r .settings .chroms) (ringOf r) (r .ended) (r .row) (r .next) (r .from) (r .to) (l .cells) told e
 
     pub right-so : FitsOf s lengths r l → rightOf s lengths r l ≡ true
-    right-so f = fits-right (lensOf s lengths l) (r .streams) (r .chroms) (r .ring) (r .ended) (r .row) (r .next) (r .from) (r .to) (l .cells) told f
+    right-so f = fits-right (lensOf s lengths l) (r .settings .streams) (r .settings .chroms) (ringOf r) (r .ended) (r .row) (r .next) (r .from) (r .to) (l .cells) told f
 
   module _ (r : Run) (b : Base) (l : Lent) where
     abbrev R : rules.Run
     R = runOf s (l .cells) r
 
     -- what fits has no more waiting than there is room for, and as many answer rows
-    pub right-given : rightOf s lengths r l ≡ true → givenOf s lengths r b l ≡ give (lengthsOf lengths) (r .ring .room) (lending (r .ring .room)) R b
+    pub right-given : rightOf s lengths r l ≡ true → givenOf s lengths r b l ≡ give (lengthsOf lengths) (r .settings .room) (lending (r .settings .room)) R b
     right-given e =
         let f : FitsOf s lengths r l = fits-so r l e in
-        ap (λ (u : Bool). give (lengthsOf lengths) (r .ring .room) (record { right = u; rows = length (l .rows) }) R b) e
-        ∙ give-rows (lengthsOf lengths) (r .ring .room) (length (l .rows)) R b (omega (arith, f .answer, f .paired)) (omega (arith, length-waiting (r .ring) (l .cells), f .fair .sound .fits))
+        ap (λ (u : Bool). give (lengthsOf lengths) (r .settings .room) (record { right = u; rows = length (l .answers) }) R b) e
+        ∙ give-rows (lengthsOf lengths) (r .settings .room) (length (l .answers)) R b (f .answer) (omega (arith, length-waiting (ringOf r) (l .cells), f .fair .sound .fits))
 
     -- a call at which 1 is not due is not refused so
     pub right-heeded : (g : Given) → rightOf s lengths r l ≡ true → g .answer ≡ answerOf (givenOf s lengths r b l .reply) → Unheeded g → ⊥
     right-heeded g e a u =
-        give-heeded (lengthsOf lengths) (r .ring .room) (length (l .rows)) R b
-        (ap (λ (t : Bool). give (lengthsOf lengths) (r .ring .room) (record { right = t; rows = length (l .rows) }) R b .reply) (sym e) ∙ sizes-reply (givenOf s lengths r b l .reply) (sym a ∙ u))
+        give-heeded (lengthsOf lengths) (r .settings .room) (length (l .answers)) R b
+        (ap (λ (t : Bool). give (lengthsOf lengths) (r .settings .room) (record { right = t; rows = length (l .answers) }) R b .reply) (sym e) ∙ sizes-reply (givenOf s lengths r b l .reply) (sym a ∙ u))
 
     -- a call that 1 does not refuse is one of the rules', with Q answer rows
-    heeded-given : (g : Given) → g .answer ≡ answerOf (givenOf s lengths r b l .reply) → (Unheeded g → ⊥) → givenOf s lengths r b l ≡ give (lengthsOf lengths) (r .ring .room) (lending (r .ring .room)) R b
-    heeded-given g a h = by-stage (r .stage) refl
+    heeded-given : (g : Given) → g .answer ≡ answerOf (givenOf s lengths r b l .reply) → (Unheeded g → ⊥) → givenOf s lengths r b l ≡ give (lengthsOf lengths) (r .settings .room) (lending (r .settings .room)) R b
+    heeded-given g a h = by-stage (stageOf r) refl
       where
-        by-right : ((e : End) → r .stage ≡ Over e → ⊥) → (u : Bool) → rightOf s lengths r l ≡ u → givenOf s lengths r b l ≡ give (lengthsOf lengths) (r .ring .room) (lending (r .ring .room)) R b
+        by-right : ((e : End) → stageOf r ≡ Over e → ⊥) → (u : Bool) → rightOf s lengths r l ≡ u → givenOf s lengths r b l ≡ give (lengthsOf lengths) (r .settings .room) (lending (r .settings .room)) R b
         by-right n true e = right-given e
         by-right n false e =
             let is : givenOf s lengths r b l ≡ refuse R Sizes =
-            ap (λ (u : Bool). give (lengthsOf lengths) (r .ring .room) (record { right = u; rows = length (l .rows) }) R b) e ∙ give-wrong (lengthsOf lengths) (r .ring .room) (length (l .rows)) R b n in
+            ap (λ (u : Bool). give (lengthsOf lengths) (r .settings .room) (record { right = u; rows = length (l .answers) }) R b) e ∙ give-wrong (lengthsOf lengths) (r .settings .room) (length (l .answers)) R b n in
             absurd (h (a ∙ ap (λ (t : rules.Given). answerOf (t .reply)) is))
 
-        by-stage : (t : Stage) → r .stage ≡ t → givenOf s lengths r b l ≡ give (lengthsOf lengths) (r .ring .room) (lending (r .ring .room)) R b
+        by-stage : (t : Stage) → stageOf r ≡ t → givenOf s lengths r b l ≡ give (lengthsOf lengths) (r .settings .room) (lending (r .settings .room)) R b
         by-stage Fresh i = by-right (λ e j. let z : Fresh ≡ Over e = sym i ∙ j in let y : _≡_ {A = ℕ} 0 1 = cc in absurd (omega arith)) (rightOf s lengths r l) refl
         by-stage (After p) i = by-right (λ e j. let z : After p ≡ Over e = sym i ∙ j in let y : _≡_ {A = ℕ} 0 1 = cc in absurd (omega arith)) (rightOf s lengths r l) refl
-        by-stage (Over e) i = give-over (lengthsOf lengths) (r .ring .room) (record { right = rightOf s lengths r l; rows = length (l .rows) }) (lending (r .ring .room)) R b e i
+        by-stage (Over e) i = give-over (lengthsOf lengths) (r .settings .room) (record { right = rightOf s lengths r l; rows = length (l .answers) }) (lending (r .settings .room)) R b e i
 
   -- ---- all calls
 
-  pub calls-replies : (Q : ℕ) {r : Run} {c : Cells} {bs : List Base} {ts : List Reply} → r .ring .room ≡ Q → Calls s lengths r c bs ts → ts ≡ replies (lengthsOf lengths) Q (runOf s c r) bs
+  pub calls-replies : (Q : ℕ) {r : Run} {c : Cells} {bs : List Base} {ts : List Reply} → r .settings .room ≡ Q → Calls s lengths r c bs ts → ts ≡ replies (lengthsOf lengths) Q (runOf s c r) bs
   unfolding replies
   calls-replies Q q none = refl
-  calls-replies Q q (call {r = r} {c = c} {b = b} {bs = bs} {ts = ts} ss rs g l′ gives heeded k) =
-      let l : Lent = lent c ss rs in
+  calls-replies Q q (call {r = r} {c = c} {b = b} {bs = bs} {ts = ts} rows g l′ gives heeded k) =
+      let l : Lent = lent c rows in
       let is : givenOf s lengths r b l ≡ give (lengthsOf lengths) Q (lending Q) (runOf s c r) b =
       heeded-given r b l g (gives .settles .answer) heeded ∙ ap (λ (n : ℕ). give (lengthsOf lengths) n (lending n) (runOf s c r) b) q in
       let more : ts ≡ replies (lengthsOf lengths) Q (give (lengthsOf lengths) Q (lending Q) (runOf s c r) b .run) bs =
       calls-replies Q (gives .settles .room ∙ q) k ∙ ap (λ (x : rules.Run). replies (lengthsOf lengths) Q x bs) (gives .settles .run ∙ ap (λ (x : rules.Given). x .run) is) in
       ap (λ (x : rules.Given). x .reply ∷ ts) is ∙ ap (λ (k : List Reply). give (lengthsOf lengths) Q (lending Q) (runOf s c r) b .reply ∷ k) more
-  calls-replies Q q (unheeded {r = r} {c = c} {b = b} {bs = bs} ss rs g l′ gives u k) =
-      let l : Lent = lent c ss rs in
+  calls-replies Q q (unheeded {r = r} {c = c} {b = b} {bs = bs} rows g l′ gives u k) =
+      let l : Lent = lent c rows in
       let no : givenOf s lengths r b l .reply ≡ refused Sizes = sizes-reply (givenOf s lengths r b l .reply) (sym (gives .settles .answer) ∙ u) in
-      let run-same : g .run ≡ r = gives .settles .exact ∙ ap (λ (t : Reply). runBy t b (drawnTo s (r .chroms) b (openedBy (r .stage) s (headsOf r))) r (g .run .ring)) no in
+      let run-same : g .run ≡ r = gives .settles .exact ∙ ap (λ (t : Reply). runBy t b (drawnTo s (r .settings .chroms) b (openedBy (stageOf r) s (headsOf r))) r (ringOf (g .run))) no in
       let cells-same : l′ .cells ≡ c = ap (λ (x : Lent). x .cells) (gives .still Sizes no) in
       calls-replies Q (gives .settles .room ∙ q) k
       ∙ ap (λ (x : Cells). replies (lengthsOf lengths) Q (runOf s x (g .run)) bs) cells-same
@@ -115,5 +116,5 @@ module _ (s : Cols) (lengths : List ℕ) where
 -- the replies to the bases that are given to a run that begins are the job's answers by the rules
 pub run-answers : (p : Plan) (lengths : List ℕ) (bs : List Base) (ts : List Reply) → Runs p lengths bs ts → ts ≡ answers (jobOf p lengths) bs
 run-answers p lengths bs ts k =
-    calls-replies (p .cols) lengths (p .room) (ap (λ (x : Begins). runFrom x p .ring .room) (k .begun)) (k .calls)
-    ∙ ap (λ (x : rules.Run). replies (lengthsOf lengths) (p .room) x bs) (begun-fresh p (k .begun) (k .cells))
+    calls-replies (p .cols) lengths (p .settings .room) (ap (λ (x : Begins). runFrom x p .settings .room) (k .begun)) (k .calls)
+    ∙ ap (λ (x : rules.Run). replies (lengthsOf lengths) (p .settings .room) x bs) (begun-fresh p (k .begun) (k .cells))

@@ -1,7 +1,7 @@
 -- Laws of the heads, over the lists that they stand for.
-pub mod LeastLaws
 pub mod CheckLaws
 pub mod MoveLaws
+pub mod Fours
 pub mod RestLaws
 pub mod LoadLaws
 pub mod TurnLaws

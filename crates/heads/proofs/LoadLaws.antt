@@ -9,42 +9,43 @@ use lib.Dec.{leb, eqb}
 use lib.ListN.{length, length-set, getD, set}
 use lib.Seq.{getD-set-same, getD-set-other}
 use borrow.Author.Tests.{le-leb, lt-leb, leb-true, leb-false, eqb-true, eqb-false}
-use Rattle.lists.specs.Build.{build}
-use Rattle.lists.proofs.BuildLaws.{build-front, build-none, build-same, set-raise}
+use Rattle.basics.specs.Build.{build}
+use Rattle.basics.proofs.BuildLaws.{build-front, build-none, build-same, set-raise}
 use Rattle.rules.specs.declared.End.{End}
 use Rattle.rules.specs.Rows.{Record, fault}
-use Rattle.heads.specs.declared.Heads.{Heads}
 use Rattle.heads.specs.declared.Next.{Next}
 use Rattle.heads.specs.declared.Check.{Check}
 use Rattle.heads.specs.declared.Check.the-variants as the-check
-use Rattle.heads.specs.declared.Loaded.{Loaded}
 use Rattle.rules.specs.Streams.{else, check}
 use Rattle.rules.specs.Call.{loading}
-use Rattle.heads.specs.View.{Cols, rowAt, rowsFrom, unlessEnded, behindAt, headAt, restAt, restsOf, freshOf}
-use Rattle.heads.specs.Move.{nextRecord, checkOf, nextOf, endsAt, Placed, Shaped}
-use Rattle.heads.specs.Load.{firstOf, opensAt, loadOne, loadTo, wrongFirst, unlessWrongIn, loadedOf}
+use Rattle.heads.specs.View.{Cols, Heads, rowAt, rowsFrom, behindAt, headAt, restAt, restsOf, freshOf}
+use Rattle.least.specs.Fours.{ended?, unlessEnded}
+use Rattle.heads.specs.Move.{nextRecord, checkOf, nextOf, endsAt, goesAt, Placed, Shaped}
+use Rattle.heads.specs.Load.{firstOf, loadOne, loadTo, wrongFirst, BeginsAs, LoadsAs}
 use Rattle.heads.proofs.CheckLaws.{check-fine, check-wrong}
 
 module _ (s : Cols) (n : ℕ) (h : Heads) (k : ℕ) where
-  abbrev pub begun : Loaded
-  begun = unlessWrongIn (wrongFirst s n h k) (loadOne s h k) h
-
   -- no row
-  pub begun-ends : getD (h .to) k 0 ≤ getD (h .next) k 0 → record { heads = endsAt h k; wrong = the-check.Fine } ≡ begun
+  pub begun-ends : getD (h .to) k 0 ≤ getD (h .next) k 0 → BeginsAs s n h k the-check.Fine (endsAt h k)
   unfolding loadOne
-  begun-ends e = rw (le-leb (getD (h .to) k 0) (getD (h .next) k 0) e)
+  begun-ends e = record { check = rw (le-leb (getD (h .to) k 0) (getD (h .next) k 0) e); heads = λ z. rw (le-leb (getD (h .to) k 0) (getD (h .next) k 0) e) }
 
   -- a row: `w` is what was found wrong with it
   module _ (e : getD (h .next) k 0 < getD (h .to) k 0) (x : Next) (w : Check) (is : x ≡ firstOf s h k) (found : w ≡ checkOf (fault n none (nextRecord (record { 0 = k }) x))) where
     seen : w ≡ checkOf (fault n none (rowAt s (getD (h .from) k 0) k (getD (h .next) k 0)))
     seen = found ∙ ap (λ (y : Next). checkOf (fault n none (nextRecord (record { 0 = k }) y))) is
 
-    pub begun-wrong : (y : End) → w ≡ the-check.Wrong y → record { heads = h; wrong = the-check.Wrong y } ≡ begun
-    begun-wrong y q = rw (lt-leb (getD (h .to) k 0) (getD (h .next) k 0) e, check-wrong (fault n none (rowAt s (getD (h .from) k 0) k (getD (h .next) k 0))) y (sym seen ∙ q))
-
-    pub begun-opens : w ≡ the-check.Fine → record { heads = opensAt h k x; wrong = the-check.Fine } ≡ begun
+    begun-by : (g : Heads) → (fault n none (rowAt s (getD (h .from) k 0) k (getD (h .next) k 0)) ≡ none → g ≡ goesAt h k (firstOf s h k)) → BeginsAs s n h k w g
     unfolding loadOne
-    begun-opens q = rw (lt-leb (getD (h .to) k 0) (getD (h .next) k 0) e, check-fine (fault n none (rowAt s (getD (h .from) k 0) k (getD (h .next) k 0))) (sym seen ∙ q), is)
+    begun-by g f = record { check = rw (lt-leb (getD (h .to) k 0) (getD (h .next) k 0) e) seen; heads = λ z. rw (lt-leb (getD (h .to) k 0) (getD (h .next) k 0) e) (f (rw (lt-leb (getD (h .to) k 0) (getD (h .next) k 0) e) at z)) }
+
+    pub begun-wrong : (y : End) → w ≡ the-check.Wrong y → BeginsAs s n h k (the-check.Wrong y) h
+    begun-wrong y q =
+        let z : fault n none (rowAt s (getD (h .from) k 0) k (getD (h .next) k 0)) ≡ some y = check-wrong (fault n none (rowAt s (getD (h .from) k 0) k (getD (h .next) k 0))) y (sym seen ∙ q) in
+        rw (← q) (begun-by h (λ v. let u : _≡_ {A = ℕ} 0 1 = cc in absurd (omega arith)))
+
+    pub begun-goes : w ≡ the-check.Fine → BeginsAs s n h k the-check.Fine (goesAt h k x)
+    begun-goes q = rw (← q) (begun-by (goesAt h k x) (λ v. ap (goesAt h k) is))
 
 -- what is wrong with the first row is what its check says
 wrong-check : (s : Cols) (n : ℕ) (h : Heads) (k : ℕ) → wrongFirst s n h k ≡ check n none (behindAt s h k)
@@ -70,18 +71,18 @@ module _ (s : Cols) (h : Heads) (k : ℕ) (in8 : Shaped h) (p : Placed s (h .str
   opened-ends e =
       let inD : k < length (h .ended) = omega (arith, in8 .ended, p .few) in
       record {
-        shaped = record { chrom = in8 .chrom; start = in8 .start; stop = in8 .stop; row = in8 .row; ended = length-set (h .ended) k true ∙ in8 .ended; next = in8 .next };
+        shaped = record { chrom = in8 .chrom; start = in8 .start; stop = in8 .stop; row = in8 .row; ended = length-set (h .ended) k 1 ∙ in8 .ended; next = in8 .next };
         placed = p;
         streams = refl;
         from = refl;
         to = refl;
-        here = rw (getD-set-same (h .ended) k true false inD, build-none (rowAt s (getD (h .from) k 0) k) (getD (h .to) k 0) (getD (h .next) k 0) e);
+        here = rw (getD-set-same (h .ended) k 1 0 inD, build-none (rowAt s (getD (h .from) k 0) k) (getD (h .to) k 0) (getD (h .next) k 0) e);
         rest = λ j f. simp getD-set-other;
         next = λ j f. refl;
       }
 
-  opened-opens : getD (h .next) k 0 < getD (h .to) k 0 → Opened s h (opensAt h k (firstOf s h k)) k
-  opened-opens e =
+  opened-goes : getD (h .next) k 0 < getD (h .to) k 0 → Opened s h (goesAt h k (firstOf s h k)) k
+  opened-goes e =
       let inC : k < length (h .chrom) = omega (arith, in8 .chrom, p .few) in
       let inA : k < length (h .start) = omega (arith, in8 .start, p .few) in
       let inE : k < length (h .stop) = omega (arith, in8 .stop, p .few) in
@@ -89,7 +90,7 @@ module _ (s : Cols) (h : Heads) (k : ℕ) (in8 : Shaped h) (p : Placed s (h .str
       let inD : k < length (h .ended) = omega (arith, in8 .ended, p .few) in
       let inN : k < length (h .next) = omega (arith, in8 .next, p .few) in
       record {
-        shaped = record { chrom = length-set (h .chrom) k _ ∙ in8 .chrom; start = length-set (h .start) k _ ∙ in8 .start; stop = length-set (h .stop) k _ ∙ in8 .stop; row = length-set (h .row) k _ ∙ in8 .row; ended = length-set (h .ended) k false ∙ in8 .ended; next = length-set (h .next) k _ ∙ in8 .next };
+        shaped = record { chrom = length-set (h .chrom) k _ ∙ in8 .chrom; start = length-set (h .start) k _ ∙ in8 .start; stop = length-set (h .stop) k _ ∙ in8 .stop; row = length-set (h .row) k _ ∙ in8 .row; ended = length-set (h .ended) k 0 ∙ in8 .ended; next = length-set (h .next) k _ ∙ in8 .next };
         placed = record { few = p .few; starts = p .starts; stops = p .stops; low = λ j b. omega (arith, p .low j b, set-raise (h .next) k (getD (h .next) k 0 + 1) j (omega arith)); high = p .high };
         streams = refl;
         from = refl;
@@ -103,9 +104,9 @@ module _ (s : Cols) (h : Heads) (k : ℕ) (in8 : Shaped h) (p : Placed s (h .str
   unfolding loadOne
   opened = go (leb (getD (h .to) k 0) (getD (h .next) k 0)) refl
     where
-      go : (t : Bool) → leb (getD (h .to) k 0) (getD (h .next) k 0) ≡ t → Opened s h (cond t (endsAt h k) (opensAt h k (firstOf s h k))) k
+      go : (t : Bool) → leb (getD (h .to) k 0) (getD (h .next) k 0) ≡ t → Opened s h (cond t (endsAt h k) (goesAt h k (firstOf s h k))) k
       go true e = opened-ends (leb-true (getD (h .to) k 0) (getD (h .next) k 0) e)
-      go false e = opened-opens (leb-false (getD (h .to) k 0) (getD (h .next) k 0) e)
+      go false e = opened-goes (leb-false (getD (h .to) k 0) (getD (h .next) k 0) e)
 
 -- the first k heads are loaded, the others are not
 pub record Upto (s : Cols) (h g : Heads) (k : ℕ) : Type 0 where
@@ -171,41 +172,29 @@ module _ (s : Cols) (h : Heads) (in8 : Shaped h) (p : Placed s (h .streams) (h .
         let w : wrongFirst s n g k ≡ check n none (behindAt s h k) = wrong-check s n g k ∙ ap (check n none) (behind-same s h g k (u .from) (u .to) (u .todo k (omega arith))) in
         rw w (rw (build-front (behindAt s h) (h .streams) k b) at (l .same))
 
-    module _ (g : Heads) (k : ℕ) (l : Loading s n h g k) (b : k < h .streams) (t : Loaded) (is : t ≡ begun s n g k) where
-      became : (o : Option End) → wrongFirst s n g k ≡ o → t ≡ unlessWrongIn o (loadOne s g k) g
-      became o z = is ∙ ap (λ (x : Option End). unlessWrongIn x (loadOne s g k) g) z
+    -- w is what was found at stream k, and g′ the heads after it
+    module _ (g : Heads) (k : ℕ) (l : Loading s n h g k) (b : k < h .streams) (w : Check) (g′ : Heads) (x : BeginsAs s n g k w g′) where
+      pub load-stops : (e : End) (m : Heads) → w ≡ the-check.Wrong e → LoadsAs s n h (the-check.Wrong e) m
+      load-stops e m q =
+          let z : wrongFirst s n g k ≡ some e = check-wrong (wrongFirst s n g k) e (sym (x .check) ∙ q) in
+          let y : some e ≡ loading n (freshOf s h) = rw z at (turn g k l b) in
+          record { check = ap checkOf y; heads = λ v. let u : _≡_ {A = ℕ} 0 1 = cc in absurd (omega arith) }
 
-      pub load-stops : (e : End) → t .wrong ≡ the-check.Wrong e → record { heads = h; wrong = the-check.Wrong e } ≡ loadedOf s n h
-      load-stops e q = go (wrongFirst s n g k) refl (turn g k l b)
-        where
-          go : (o : Option End) → wrongFirst s n g k ≡ o → else o (loading n (build (behindAt s h) (h .streams - (k + 1)) (k + 1))) ≡ loading n (freshOf s h) → record { heads = h; wrong = the-check.Wrong e } ≡ loadedOf s n h
-          go none z y = let w : the-check.Wrong e ≡ the-check.Fine = sym q ∙ ap (λ (x : Loaded). x .wrong) (became none z) in let v : _≡_ {A = ℕ} 0 1 = cc in absurd (omega arith)
-          go (some f) z y =
-              let w : the-check.Wrong e ≡ the-check.Wrong f = sym q ∙ ap (λ (x : Loaded). x .wrong) (became (some f) z) in
-              let v : e ≡ f = cc in rw (← y, v)
-
-      pub load-goes : t .wrong ≡ the-check.Fine → Loading s n h (t .heads) (k + 1)
+      pub load-goes : w ≡ the-check.Fine → Loading s n h g′ (k + 1)
       unfolding loadTo
-      load-goes q = go (wrongFirst s n g k) refl (turn g k l b)
-        where
-          go : (o : Option End) → wrongFirst s n g k ≡ o → else o (loading n (build (behindAt s h) (h .streams - (k + 1)) (k + 1))) ≡ loading n (freshOf s h) → Loading s n h (t .heads) (k + 1)
-          go none z y =
-              let one-on : k + 1 ≡ suc k = omega arith in
-              record { is = ap (λ (x : Loaded). x .heads) (became none z) ∙ rw (l .is, one-on); within = omega arith; same = y }
-          go (some f) z y = let w : the-check.Fine ≡ the-check.Wrong f = sym q ∙ ap (λ (x : Loaded). x .wrong) (became (some f) z) in let v : _≡_ {A = ℕ} 0 1 = cc in absurd (omega arith)
+      load-goes q =
+          let z : wrongFirst s n g k ≡ none = check-fine (wrongFirst s n g k) (sym (x .check) ∙ q) in
+          let one-on : k + 1 ≡ suc k = omega arith in
+          record { is = x .heads z ∙ rw (l .is, one-on); within = omega arith; same = rw z at (turn g k l b) }
 
-    pub load-ends : (g : Heads) (k : ℕ) → Loading s n h g k → h .streams ≤ k → record { heads = g; wrong = the-check.Fine } ≡ loadedOf s n h
+    pub load-ends : (g : Heads) (k : ℕ) → Loading s n h g k → h .streams ≤ k → LoadsAs s n h the-check.Fine g
     unfolding build
     load-ends g k l b =
         let z : h .streams - k ≡ 0 = omega arith in
         let y : k ≡ h .streams = omega (arith, l .within) in
         let none-wrong : none ≡ loading n (freshOf s h) = rw z at (l .same) in
-        rw (← none-wrong, l .is, y)
+        record { check = ap checkOf none-wrong; heads = λ v. l .is ∙ ap (loadTo s h) y }
 
     -- the heads that were loaded with nothing wrong
-    pub loaded-upto : (t : Loaded) → t ≡ loadedOf s n h → t .wrong ≡ the-check.Fine → Upto s h (t .heads) (h .streams)
-    loaded-upto t e q = go (loading n (freshOf s h)) e
-      where
-        go : (o : Option End) → t ≡ unlessWrongIn o (loadTo s h (h .streams)) h → Upto s h (t .heads) (h .streams)
-        go none z = rw (ap (λ (x : Loaded). x .heads) z) (upto (h .streams) (omega arith))
-        go (some f) z = let w : the-check.Fine ≡ the-check.Wrong f = sym q ∙ ap (λ (x : Loaded). x .wrong) z in let v : _≡_ {A = ℕ} 0 1 = cc in absurd (omega arith)
+    pub loaded-upto : (w : Check) (g : Heads) → LoadsAs s n h w g → w ≡ the-check.Fine → Upto s h g (h .streams)
+    loaded-upto w g x q = rw (x .heads (check-fine (loading n (freshOf s h)) (sym (x .check) ∙ q))) (upto (h .streams) (omega arith))

@@ -6,9 +6,9 @@ use mathlib.Core.List.{List, [], _∷_}
 use Prim.Native.Nat.{ℕ, zero, suc, _+_, _-_, _<_, _≤_}
 use native.Mathlib.Omega.{arith}
 use lib.ListN.{length, getD, set}
-use Rattle.lists.specs.Lists.{total}
-use Rattle.lists.specs.Build.{build}
-use Rattle.lists.proofs.BuildLaws.{build-get, build-length, build-front, build-none}
+use Rattle.basics.specs.Lists.{total}
+use Rattle.basics.specs.Build.{build}
+use Rattle.basics.proofs.BuildLaws.{build-get, build-length, build-front, build-none}
 use Rattle.rules.specs.declared.Base.{Base}
 use Rattle.rules.specs.declared.End.{End}
 use Rattle.rules.specs.Rows.{Record, fault}
@@ -16,20 +16,22 @@ use Rattle.rules.specs.Merge.{Pick, none, one, pick}
 use Rattle.rules.specs.Streams.{ahead, next}
 use Rattle.rules.specs.Overlap.{taken, live}
 use Rattle.theory.proofs.MergeLaws.{Took, picked}
-use Rattle.heads.specs.declared.Best.{Best}
+use Rattle.least.specs.declared.Best.{Best}
 use Rattle.heads.specs.declared.Taken.{Taken}
+use Rattle.heads.specs.declared.Then.the-variants as then
 use Rattle.heads.specs.declared.Move.{Move}
 use Rattle.heads.specs.declared.Move.the-variants as move
-use Rattle.heads.specs.View.{Cols, recordFrom, unlessEnded, leftAt, rowAt, rowsFrom}
-use Rattle.heads.specs.Least.{headOf, bestOf, leastIn}
+use Rattle.heads.specs.View.{Cols, rowAt, rowsFrom}
+use Rattle.least.specs.Fours.{recordFrom, unlessEnded, leftAt, ended?}
+use Rattle.least.specs.Least.{headOf, bestOf, leastIn}
 use Rattle.heads.specs.declared.Next.{Next}
 use Rattle.heads.specs.declared.Check.{Check}
 use Rattle.heads.specs.declared.Check.the-variants as check
 use Rattle.heads.specs.Move.{bestRecord, checkOf, takenOf, nextOf, takes, moveOf, behindBy}
 use Rattle.heads.proofs.CheckLaws.{check-fine, check-wrong}
-use Rattle.heads.proofs.LeastLaws.{own-number, least-pick}
+use Rattle.least.proofs.LeastLaws.{own-number, least-pick}
 
-module _ (q : List (List ℕ)) (ended : List Bool) (behind : ℕ → List Record) (n : ℕ) (few : n ≤ 8) where
+module _ (q : List (List ℕ)) (ended : List ℕ) (behind : ℕ → List Record) (n : ℕ) (few : n ≤ 8) where
   abbrev ss : List (List Record)
   ss = build (leftAt q ended behind) n 0
 
@@ -50,7 +52,7 @@ module _ (q : List (List ℕ)) (ended : List Bool) (behind : ℕ → List Record
   -- where a picked record stands, and the lists without it
   pub record Standing (a : Record) (rest : List Record) (ts : List (List Record)) : Type 0 where
     pub place : a .stream .0 < n
-    pub goes-on : getD ended (a .stream .0) false ≡ false
+    pub goes-on : ended? (getD ended (a .stream .0) 0) ≡ false
     pub after : rest ≡ behind (a .stream .0)
     pub without : ts ≡ set ss (a .stream .0) rest
     pub fewer : total ss ≡ suc (total ts)
@@ -62,11 +64,11 @@ module _ (q : List (List ℕ)) (ended : List Bool) (behind : ℕ → List Record
       let inside : k < n = rw (build-length (leftAt q ended behind) n 0) at (w .inside) in
       let zero-add : 0 + k ≡ k = omega arith in
       let here : leftAt q ended behind k ≡ a ∷ rest = rw zero-add at (sym (build-get (leftAt q ended behind) n 0 k [] inside) ∙ w .here) in
-      let mine : a .stream .0 ≡ k = own-number q ended behind n few k (getD ended k false) (getD q k []) (behind k) here in
+      let mine : a .stream .0 ≡ k = own-number q ended behind n few k (ended? (getD ended k 0)) (getD q k []) (behind k) here in
       record {
         place = omega arith;
-        goes-on = rw mine (alive k (getD ended k false) (getD q k []) (behind k) here);
-        after = rest-is k (getD ended k false) (getD q k []) (behind k) here ∙ ap behind (sym mine);
+        goes-on = rw mine (alive k (ended? (getD ended k 0)) (getD q k []) (behind k) here);
+        after = rest-is k (ended? (getD ended k 0)) (getD q k []) (behind k) here ∙ ap behind (sym mine);
         without = w .put ∙ ap (λ (i : ℕ). set ss i rest) (sym mine);
         fewer = w .fewer;
       }
@@ -115,7 +117,7 @@ takes-first t place (Option.some e) x l = refl
 
 -- the rows behind a head: none, or the one at the next place
 module _ (N : ℕ) (s : Cols) (from to k at : ℕ) (t : Taken) (a : Record) where
-  pub takes-last : to ≤ at → takes t (at + 1) (next N a (rowsFrom s from to k at)) (rowsFrom s from to k at) ≡ move.Ends t
+  pub takes-last : to ≤ at → takes t (at + 1) (next N a (rowsFrom s from to k at)) (rowsFrom s from to k at) ≡ move.Takes t then.Ends
   takes-last h = rw (build-none (rowAt s from k) to at h)
 
   pub takes-more : at < to → takes t (at + 1) (next N a (rowsFrom s from to k at)) (rowsFrom s from to k at)
@@ -126,11 +128,11 @@ module _ (N : ℕ) (s : Cols) (from to k at : ℕ) (t : Taken) (a : Record) wher
 pub followed-wrong : (t : Taken) (place : ℕ) (o : Option End) (x : Record) {w : Check} {e : End} → w ≡ checkOf o → w ≡ check.Wrong e → move.Wrong e ≡ takes t place o (x ∷ [])
 followed-wrong t place o x {e} p q = rw (check-wrong o e (sym p ∙ q))
 
-pub followed-fine : (t : Taken) (place : ℕ) (o : Option End) (x : Record) {w : Check} {y : Next} → w ≡ checkOf o → w ≡ check.Fine → y ≡ nextOf x place → move.Goes t y ≡ takes t place o (x ∷ [])
+pub followed-fine : (t : Taken) (place : ℕ) (o : Option End) (x : Record) {w : Check} {y : Next} → w ≡ checkOf o → w ≡ check.Fine → y ≡ nextOf x place → move.Takes t (then.Goes y) ≡ takes t place o (x ∷ [])
 followed-fine t place o x p q r = rw (check-fine o (sym p ∙ q), r)
 
 -- the turn of a head that is taken, from the rows behind the heads
-module _ (q : List (List ℕ)) (ended : List Bool) (s : Cols) (nexts from to : List ℕ) (n : ℕ) (few : n ≤ 8) (N : ℕ) (b : Base) (h : Best)
+module _ (q : List (List ℕ)) (ended : List ℕ) (s : Cols) (nexts from to : List ℕ) (n : ℕ) (few : n ≤ 8) (N : ℕ) (b : Base) (h : Best)
     (c : Chosen q ended (behindBy s nexts from to) n few h) (v : Bool) (lives : v ≡ live b (bestRecord h)) (t : taken b (bestRecord h) ≡ true) (k : ℕ) (place : k ≡ h .stream .0) where
   abbrev pub head-taken : Taken
   head-taken = record { stream = h .stream; live = v; row = h .row; start = h .start; stop = h .stop }
@@ -141,7 +143,7 @@ module _ (q : List (List ℕ)) (ended : List Bool) (s : Cols) (nexts from to : L
   turns : answer ≡ takes head-taken (getD nexts k 0 + 1) (next N (bestRecord h) (behindBy s nexts from to k)) (behindBy s nexts from to k)
   turns = takes-chosen q ended (behindBy s nexts from to) n few N b nexts h c t ∙ rw (lives, place)
 
-  pub decided-ends : getD to k 0 ≤ getD nexts k 0 → move.Ends head-taken ≡ answer
+  pub decided-ends : getD to k 0 ≤ getD nexts k 0 → move.Takes head-taken then.Ends ≡ answer
   decided-ends e = sym (turns ∙ takes-last N s (getD from k 0) (getD to k 0) k (getD nexts k 0) head-taken (bestRecord h) e)
 
   -- from the row that stands at the next place, as one of stream i

@@ -10,10 +10,10 @@ use lib.Dec.{eqb, leb}
 use lib.ListN.{length, length-set, getD, set}
 use lib.Seq.{getD-set-same, getD-set-other}
 use borrow.Author.Tests.{eqb-true, leb-true, leb-false}
-use Rattle.lists.specs.Lists.{total}
-use Rattle.lists.specs.Build.{build}
-use Rattle.lists.proofs.BoolLaws.{and-left}
-use Rattle.lists.proofs.BuildLaws.{build-same, build-set0, build-front, build-none, set-raise}
+use Rattle.basics.specs.Lists.{total}
+use Rattle.basics.specs.Build.{build}
+use Rattle.basics.proofs.BoolLaws.{and-left}
+use Rattle.basics.proofs.BuildLaws.{build-same, build-set0, build-front, build-none, set-raise}
 use Rattle.rules.specs.declared.Base.{Base}
 use Rattle.rules.specs.declared.End.{End}
 use Rattle.rules.specs.Rows.{Record}
@@ -23,15 +23,18 @@ use Rattle.rules.specs.Overlap.{taken, live}
 use Rattle.rules.specs.Pull.{Pull, paused, ends, unlessWrong, turn, pull}
 use Rattle.theory.proofs.MergeLaws.{Took, picked}
 use Rattle.theory.proofs.Turns.{pull-turn}
-use Rattle.heads.specs.declared.Heads.{Heads}
-use Rattle.heads.specs.declared.Best.{Best}
+use Rattle.heads.specs.View.{Heads}
+use Rattle.least.specs.declared.Best.{Best}
 use Rattle.heads.specs.declared.Taken.{Taken}
 use Rattle.heads.specs.declared.Next.{Next}
+use Rattle.heads.specs.declared.Then.{Then}
+use Rattle.heads.specs.declared.Then.the-variants as then
 use Rattle.heads.specs.declared.Move.{Move}
 use Rattle.heads.specs.declared.Move.the-variants as move
-use Rattle.heads.specs.View.{Cols, recordIn, rowAt, rowsFrom, unlessEnded, recordFrom, fourAt, foursOf, leftAt, behindAt, headAt, restAt, restsOf}
-use Rattle.heads.specs.Least.{headOf, bestOf}
-use Rattle.heads.specs.Move.{nextRecord, takenOf, nextOf, takes, moveOf, behindBy, Placed, Shaped, endsAt, goesAt, moved, takenRecord}
+use Rattle.heads.specs.View.{Cols, rowAt, rowsFrom, fourAt, foursOf, behindAt, headAt, restAt, restsOf}
+use Rattle.least.specs.Fours.{recordIn, unlessEnded, recordFrom, leftAt, ended?}
+use Rattle.least.specs.Least.{headOf, bestOf}
+use Rattle.heads.specs.Move.{nextRecord, takenOf, nextOf, takes, moveOf, behindBy, Placed, Shaped, endsAt, goesAt, turnAt, moved, takenRecord}
 use Rattle.heads.proofs.MoveLaws.{Standing, standing}
 
 -- ---- the heads as fours, and as what is left
@@ -58,7 +61,7 @@ module _ (s : Cols) (h : Heads) where
   unfolding restsOf
   rests-shown few =
       build-same (restAt s h) (leftAt q (h .ended) after) (h .streams) 0
-      (λ k a b. ap (λ (l : List ℕ). unlessEnded (getD (h .ended) k false) (recordFrom k l ∷ behindAt s h k)) (fours-at (h .chrom) (h .start) (h .stop) (h .row) k (omega (arith, b))))
+      (λ k a b. ap (λ (l : List ℕ). unlessEnded (ended? (getD (h .ended) k 0)) (recordFrom k l ∷ behindAt s h k)) (fours-at (h .chrom) (h .start) (h .stop) (h .row) k (omega (arith, b))))
 
 -- ---- one stream's head replaced
 
@@ -67,19 +70,20 @@ module _ (s : Cols) (h : Heads) (k : ℕ) (in8 : Shaped h) (few : h .streams ≤
   unfolding restsOf
   ends-rests =
       build-set0 (restAt s h) (restAt s (endsAt h k)) (h .streams) k below (λ m a. simp getD-set-other)
-      ∙ ap (set (build (restAt s h) (h .streams) 0) k) (ap (λ (t : Bool). unlessEnded t (headAt h k ∷ behindAt s h k)) (getD-set-same (h .ended) k true false (omega (arith, in8 .ended))))
+      ∙ ap (set (build (restAt s h) (h .streams) 0) k) (ap (λ (t : Bool). unlessEnded t (headAt h k ∷ behindAt s h k)) (ap ended? (getD-set-same (h .ended) k 1 0 (omega (arith, in8 .ended)))))
 
   -- the new head, and the rows from its next place on
-  pub goes-rests : (x : Next) → getD (h .ended) k false ≡ false → restsOf s (goesAt h k x) ≡ set (restsOf s h) k (nextRecord (record { 0 = k }) x ∷ rowsFrom s (getD (h .from) k 0) (getD (h .to) k 0) k (x .next))
+  pub goes-rests : (x : Next) → restsOf s (goesAt h k x) ≡ set (restsOf s h) k (nextRecord (record { 0 = k }) x ∷ rowsFrom s (getD (h .from) k 0) (getD (h .to) k 0) k (x .next))
   unfolding restsOf
-  goes-rests x live =
+  goes-rests x =
       let inC : k < length (h .chrom) = omega (arith, in8 .chrom) in
       let inA : k < length (h .start) = omega (arith, in8 .start) in
       let inE : k < length (h .stop) = omega (arith, in8 .stop) in
       let inR : k < length (h .row) = omega (arith, in8 .row) in
+      let inD : k < length (h .ended) = omega (arith, in8 .ended) in
       let inN : k < length (h .next) = omega (arith, in8 .next) in
       build-set0 (restAt s h) (restAt s (goesAt h k x)) (h .streams) k below (λ m a. simp getD-set-other)
-      ∙ simp (getD-set-same, inC, inA, inE, inR, inN, live)
+      ∙ simp (getD-set-same, inC, inA, inE, inR, inD, inN)
 
 -- ---- a turn
 
@@ -94,15 +98,13 @@ queued N b full Q queue t ss =
 abbrev pub onMove : Cols → Heads → ℕ → Base → End → ℕ → List Record → Move → Pull Record End
 onMove s h N b full Q queue (move.Stay x) = paused (restsOf s h) queue
 onMove s h N b full Q queue (move.Wrong e) = ends e
-onMove s h N b full Q queue (move.Ends t) = queued N b full Q queue t (restsOf s (endsAt h (t .stream .0)))
-onMove s h N b full Q queue (move.Goes t x) = queued N b full Q queue t (restsOf s (goesAt h (t .stream .0) x))
+onMove s h N b full Q queue (move.Takes t a) = queued N b full Q queue t (restsOf s (turnAt h (t .stream .0) a))
 
 -- a turn that takes a head leaves one row less
 abbrev pub Shorter : Cols → Heads → Move → Type 0
 Shorter s h (move.Stay x) = Unit {0}
 Shorter s h (move.Wrong e) = Unit {0}
-Shorter s h (move.Ends t) = total (restsOf s h) ≡ suc (total (restsOf s (endsAt h (t .stream .0))))
-Shorter s h (move.Goes t x) = total (restsOf s h) ≡ suc (total (restsOf s (goesAt h (t .stream .0) x)))
+Shorter s h (move.Takes t a) = total (restsOf s h) ≡ suc (total (restsOf s (turnAt h (t .stream .0) a)))
 
 -- a live record lies on the base's chromosome
 pub taken-same : (b : Base) (a : Record) → live b a ≡ true → takenRecord b (takenOf b a) ≡ a
@@ -146,7 +148,7 @@ module _ (s : Cols) (h : Heads) (in8 : Shaped h) (few : h .streams ≤ 8) (N : �
       let gives : ts ≡ set (restsOf s h) k rest = w .without ∙ ap (λ (l : List (List Record)). set l k rest) (rests-shown s h few) in
       record {
         last = λ e. ends-rests s h k in8 few (w .place) ∙ ap (set (restsOf s h) k) (sym e) ∙ sym gives;
-        more = λ x l e. goes-rests s h k in8 few (w .place) (nextOf x (getD (h .next) k 0 + 1)) (w .goes-on) ∙ ap (set (restsOf s h) k) (first-row k x l (sym (w .after) ∙ e) ∙ sym e) ∙ sym gives;
+        more = λ x l e. goes-rests s h k in8 few (w .place) (nextOf x (getD (h .next) k 0 + 1)) ∙ ap (set (restsOf s h) k) (first-row k x l (sym (w .after) ∙ e) ∙ sym e) ∙ sym gives;
         fewer = ap total (sym (rests-shown s h few)) ∙ w .fewer;
       }
 
@@ -229,8 +231,7 @@ module _ (s : Cols) (h : Heads) (in8 : Shaped h) (few : h .streams ≤ 8) (N : �
   abbrev pub InPlace : Move → Type 0
   InPlace (move.Stay x) = Unit {0}
   InPlace (move.Wrong e) = Unit {0}
-  InPlace (move.Ends t) = t .stream .0 < h .streams
-  InPlace (move.Goes t x) = t .stream .0 < h .streams
+  InPlace (move.Takes t a) = t .stream .0 < h .streams
 
   pub in-place : InPlace move-here
   unfolding moveOf
@@ -261,20 +262,19 @@ module _ (s : Cols) (h : Heads) (in8 : Shaped h) (few : h .streams ≤ 8) (N : �
           case true Option.none [] z = let w : _≡_ {A = ℕ} 0 1 = cc in absurd (omega arith)
           case true Option.none (y ∷ l) z = let w : _≡_ {A = ℕ} 0 1 = cc in absurd (omega arith)
 
-  -- what `decide` answers is the turn of these heads
-  pub decided : (m : Move) (p : List (List ℕ)) → p ≡ q s h → m ≡ moveOf N b (h .next) (pick ahead (build (leftAt p (h .ended) (after s h)) (h .streams) 0)) → m ≡ move-here
-  decided m p e f = f ∙ ap (λ (l : List (List ℕ)). moveOf N b (h .next) (pick ahead (build (leftAt l (h .ended) (after s h)) (h .streams) 0))) e ∙ ap (λ (l : List (List Record)). moveOf N b (h .next) (pick ahead l)) (rests-shown s h few)
-
 -- the arrays after a turn have their eight places
+pub turned-shaped : (h : Heads) (k : ℕ) (a : Then) → Shaped h → Shaped (turnAt h k a)
+turned-shaped h k then.Ends w = record { chrom = w .chrom; start = w .start; stop = w .stop; row = w .row; ended = length-set (h .ended) k 1 ∙ w .ended; next = w .next }
+turned-shaped h k (then.Goes x) w = record {
+  chrom = length-set (h .chrom) k (x .chrom .0) ∙ w .chrom;
+  start = length-set (h .start) k (x .start) ∙ w .start;
+  stop = length-set (h .stop) k (x .stop) ∙ w .stop;
+  row = length-set (h .row) k (x .row) ∙ w .row;
+  ended = length-set (h .ended) k 0 ∙ w .ended;
+  next = length-set (h .next) k (x .next) ∙ w .next;
+}
+
 pub moved-shaped : (h : Heads) (m : Move) → Shaped h → Shaped (moved h m)
 moved-shaped h (move.Stay x) w = w
 moved-shaped h (move.Wrong e) w = w
-moved-shaped h (move.Ends t) w = record { chrom = w .chrom; start = w .start; stop = w .stop; row = w .row; ended = length-set (h .ended) (t .stream .0) true ∙ w .ended; next = w .next }
-moved-shaped h (move.Goes t x) w = record {
-  chrom = length-set (h .chrom) (t .stream .0) (x .chrom .0) ∙ w .chrom;
-  start = length-set (h .start) (t .stream .0) (x .start) ∙ w .start;
-  stop = length-set (h .stop) (t .stream .0) (x .stop) ∙ w .stop;
-  row = length-set (h .row) (t .stream .0) (x .row) ∙ w .row;
-  ended = w .ended;
-  next = length-set (h .next) (t .stream .0) (x .next) ∙ w .next;
-}
+moved-shaped h (move.Takes t a) w = turned-shaped h (t .stream .0) a w

@@ -6,24 +6,26 @@ use mathlib.Core.List.{List, [], _∷_}
 use Prim.Native.Nat.{ℕ, suc, _+_, _<_, _≤_}
 use native.Mathlib.Omega.{arith}
 use lib.ListN.{getD}
-use Rattle.lists.specs.Lists.{total}
-use Rattle.lists.specs.Build.{build}
+use Rattle.basics.specs.Lists.{total}
+use Rattle.basics.specs.Build.{build}
 use Rattle.rules.specs.declared.Base.{Base}
 use Rattle.rules.specs.declared.End.{End}
 use Rattle.rules.specs.Rows.{Record}
 use Rattle.rules.specs.Merge.{Pick, none, one, pick}
 use Rattle.rules.specs.Streams.{ahead, next}
 use Rattle.rules.specs.Overlap.{taken, live}
-use Rattle.heads.specs.declared.Heads.{Heads}
-use Rattle.heads.specs.declared.Best.{Best}
+use Rattle.heads.specs.View.{Heads}
+use Rattle.least.specs.declared.Best.{Best}
 use Rattle.heads.specs.declared.Taken.{Taken}
 use Rattle.heads.specs.declared.Next.{Next}
+use Rattle.heads.specs.declared.Then.{Then}
 use Rattle.heads.specs.declared.Move.{Move}
 use Rattle.heads.specs.declared.Move.the-variants as move
-use Rattle.heads.specs.View.{Cols, foursOf, leftAt, restsOf}
-use Rattle.heads.specs.Least.{headOf, bestOf}
-use Rattle.heads.specs.Move.{moveOf, takes, takenOf, behindBy, Placed, Shaped, endsAt, goesAt, moved, takenRecord}
-use Rattle.heads.proofs.RestLaws.{Shorter, shorter, InPlace, in-place, moved-placed, moved-shaped, decided, move-here, taken-same, stands, stayed}
+use Rattle.heads.specs.View.{Cols, foursOf, restsOf}
+use Rattle.least.specs.Fours.{leftAt}
+use Rattle.least.specs.Least.{headOf, bestOf}
+use Rattle.heads.specs.Move.{moveOf, takes, takenOf, behindBy, Placed, Shaped, turnAt, moved, takenRecord}
+use Rattle.heads.proofs.RestLaws.{Shorter, shorter, InPlace, in-place, moved-placed, moved-shaped, move-here, taken-same, stands, stayed}
 
 -- the heads are placed, and each array has its eight places
 pub record Turning (s : Cols) (h : Heads) : Type 0 where
@@ -46,8 +48,7 @@ module _ (s : Cols) (h : Heads) (w : Turning s h) (N : ℕ) (b : Base) where
   abbrev Lively : Move → Type 0
   Lively (move.Stay x) = Unit {0}
   Lively (move.Wrong e) = Unit {0}
-  Lively (move.Ends t) = t .live ≡ true → live b (takenRecord b t) ≡ true
-  Lively (move.Goes t x) = t .live ≡ true → live b (takenRecord b t) ≡ true
+  Lively (move.Takes t a) = t .live ≡ true → live b (takenRecord b t) ≡ true
 
   lively-here : Lively turn-here
   unfolding moveOf
@@ -80,13 +81,8 @@ module _ (s : Cols) (h : Heads) (w : Turning s h) (N : ℕ) (b : Base) where
     lives : Lively m
     lives = rw here lively-here
 
-    pub ends-takes : (t : Taken) → m ≡ move.Ends t → Takes s b h t (endsAt h (t .stream .0))
-    ends-takes t e =
-        let i : t .stream .0 < h .streams = rw e at inside in
-        record { place = omega (arith, w .placed .few); turning = rw e at turned; less = rw e at less; lively = rw e at lives }
-
-    pub goes-takes : (t : Taken) (x : Next) → m ≡ move.Goes t x → Takes s b h t (goesAt h (t .stream .0) x)
-    goes-takes t x e =
+    pub takes-so : (t : Taken) (a : Then) → m ≡ move.Takes t a → Takes s b h t (turnAt h (t .stream .0) a)
+    takes-so t a e =
         let i : t .stream .0 < h .streams = rw e at inside in
         record { place = omega (arith, w .placed .few); turning = rw e at turned; less = rw e at less; lively = rw e at lives }
 

@@ -1,5 +1,4 @@
 -- What the arrays of a run and the lent columns stand for.
 pub mod View
-pub mod Least
 pub mod Move
 pub mod Load

@@ -1,13 +1,13 @@
--- What a host may rely on: the numbers are 01's, memory of zeros is a run that refuses every base, a refused base leaves what is kept as it was,
--- and what the statements leave open.
+-- What a host may rely on: the numbers are 01's, memory of zeros is a run that refuses every base, a refused base leaves the run and all that was
+-- lent as they were, any two results agree, bases in columns that differ in length are not given, and ranges that are not one for each stream are refused.
 use mathlib.Core.Path.{_≡_, refl, sym, ap, _∙_}
 use mathlib.Core.Bool.{Bool, true, false, cond, _&&_}
 use mathlib.Core.Option.{some}
 use mathlib.Core.List.{List}
 use Prim.Native.Nat.{ℕ, _<_}
 use native.Mathlib.Omega.{arith}
-use borrow.Author.Tests.{le-leb, lt-leb, ne-eqb}
-use lib.Dec.{leb, eqb}
+use borrow.Author.Tests.{le-leb, lt-leb, eqb-true}
+use lib.Dec.{eqb}
 use lib.ListN.{length}
 use Rattle.rules.specs.declared.Base.{Base}
 use Rattle.rules.specs.declared.Answer.{Answer}
@@ -15,30 +15,31 @@ use Rattle.rules.specs.declared.Answer.the-variants.{Found, Refused, Ended}
 use Rattle.rules.specs.declared.Offer.the-variants.{Nothing, Upto}
 use Rattle.rules.specs.declared.Refusal.{Refusal}
 use Rattle.rules.specs.declared.Refusal.the-variants.{Sizes}
+use Rattle.rules.specs.declared.Settings.{Settings}
 use Rattle.rules.specs.declared.Unbegun.the-variants as unbegun
 use Rattle.rules.specs.Numbers.{numberOf}
-use Rattle.rules.specs.Start.{refusesStart}
+use Rattle.rules.specs.Start.{within, refusesStart}
 use Rattle.rules.specs.Call.{Reply, refused, refuse, give}
-use Rattle.heads.specs.declared.Heads.{Heads}
-use Rattle.heads.specs.View.{Cols}
+use Rattle.heads.specs.View.{Heads, Cols}
 use Rattle.queue.specs.declared.Ring.{Ring}
-use Rattle.queue.proofs.Calls as queue
 use Rattle.admit.specs.Right.{measured}
 use Rattle.admit.proofs.RightLaws.{right-off}
-use Rattle.sweep.specs.declared.Run.{Run}
-use Rattle.sweep.specs.declared.start.Begins.the-variants as begins
-use Rattle.sweep.specs.View.{headsOf, eight}
-use Rattle.sweep.specs.View as sweep
 use Rattle.pulls.specs.Pulls.{Lent, drawnTo}
-use Rattle.sweep.specs.Settle.{runBy}
-use Rattle.sweep.specs.Start.{Plan, namesOf, lendable, refusedOf, begunBy, startOf}
-use Rattle.sweep.specs.Give.{lensOf, rightOf, givenOf, openedBy}
-use Rattle.inplace.specs.declared.held.Held.{Held}
+use Rattle.runs.specs.declared.Run.{Run}
+use Rattle.runs.specs.declared.start.Begins.the-variants as begins
+use Rattle.runs.specs.Marks.{marked}
+use Rattle.runs.specs.View.{headsOf, ringOf, stageOf, runOf, eight}
+use Rattle.runs.specs.Start.{Plan, namesOf, lendable, refusedOf, begunBy, startOf}
+use Rattle.runs.specs.Comes.{lensOf, rightOf, givenOf}
+use Rattle.step.specs.Settle.{runBy}
+use Rattle.step.specs.Give.{openedBy}
+use Rattle.many.specs.declared.Passed.{Passed}
+use Rattle.many.specs.Many.{Even, unevenBy}
+use Rattle.demands.proofs.OneResult.{Alike, one-result}
+use Rattle.inplace.specs.declared.Swept.{Swept}
 use Rattle.inplace.specs.declared.told.Told.{Told}
-use Rattle.inplace.specs.Held.{runOf, heldOf, marked}
 use Rattle.inplace.specs.Told.{toldOf}
-use Rattle.inplace.proofs.HeldLaws.{run-back}
-use Rattle.inplace.specs.Calls.{planOf, BeginsInPlace, GivesInPlace}
+use Rattle.inplace.specs.Calls.{streamsIn, planOf, answered, BeginsInPlace, GivesInPlace, GivesAllInPlace}
 
 -- ---- numbers
 
@@ -51,74 +52,89 @@ told-number (Ended e) = refl
 
 -- ---- memory of zeros
 
-abbrev pub zeros : Held
-zeros = record { chrom = eight 0; start = eight 0; stop = eight 0; row = eight 0; next = eight 0; from = eight 0; to = eight 0; ended = eight false; streams = 0; chroms = 0; head = 0; len = 0; room = 0; place = 0; mark = marked 0 0 0 0 }
+abbrev pub zeros : Run
+zeros = record { chrom = eight 0; start = eight 0; stop = eight 0; row = eight 0; ended = eight 0; next = eight 0; from = eight 0; to = eight 0; settings = record { streams = 0; chroms = 0; room = 0 }; head = 0; len = 0; place = 0; mark = marked 0 0 0 0 }
 
 module _ (s : Cols) (lengths : List ℕ) (l : Lent) where
-  zeros-wrong : rightOf s lengths (runOf zeros) l ≡ false
+  zeros-wrong : rightOf s lengths zeros l ≡ false
   unfolding measured
-  zeros-wrong = right-off (lensOf s lengths l) 0 0 (queue.fresh 0 (record { 0 = 0 })) (eight false) (eight 0) (eight 0) (eight 0) (eight 0) (l .cells) refl
+  zeros-wrong = right-off (lensOf s lengths l) 0 0 (ringOf zeros) (eight 0) (eight 0) (eight 0) (eight 0) (eight 0) (l .cells) refl
 
   -- a run that was never begun: every base that is given to it is refused by 1
-  pub zeros-refused : (b : Base) → givenOf s lengths (runOf zeros) b l ≡ refuse (sweep.runOf s (l .cells) (runOf zeros)) Sizes
+  pub zeros-refused : (b : Base) → givenOf s lengths zeros b l ≡ refuse (runOf s (l .cells) zeros) Sizes
   unfolding give
   zeros-refused b = rw zeros-wrong
 
 -- ---- "run unchanged"
 
--- what stands in place after a start, and memory of zeros, is kept as every call keeps a run
-pub begun-kept : (p : Plan) (n : ℕ) (h : Held) → BeginsInPlace p n h → h ≡ heldOf (runOf h)
-begun-kept p n h f = f .held ∙ ap heldOf (sym (run-back (startOf p .run)) ∙ ap runOf (sym (f .held)))
-
-pub zeros-kept : zeros ≡ heldOf (runOf zeros)
-zeros-kept = refl
-
 by-refused : (t : Reply) (x : Refusal) (b : Base) (h : Heads) (r : Run) (q : Ring) → t ≡ refused x → runBy t b h r q ≡ r
 by-refused t x b h r q e = rw e
 
-module _ (s : Cols) (lengths : List ℕ) (h : Held) (b : Base) (l : Lent) (t : Told) (h′ : Held) (l′ : Lent) (g : GivesInPlace s lengths h b l t h′ l′) where
-  -- what a call left is given back as it is, every number of it, and so is all that was lent
-  pub unchanged : h ≡ heldOf (runOf h) → (x : Refusal) → givenOf s lengths (runOf h) b l .reply ≡ refused x → h′ ≡ h
-  unchanged k x e =
-      g .held ∙
-      ap heldOf
-      (g .gives .settles .exact ∙
-      by-refused (givenOf s lengths (runOf h) b l .reply) x b (drawnTo s (h .chroms) b (openedBy (runOf h .stage) s (headsOf (runOf h)))) (runOf h) (runOf h′ .ring) e) ∙
-      sym k
+module _ (s : Cols) (lengths : List ℕ) (r : Run) (b : Base) (l : Lent) (t : Told) (r′ : Run) (l′ : Lent) (g : GivesInPlace s lengths r b l t r′ l′) where
+  -- a refused base leaves the run as it was, every number of it, and all that was lent
+  pub unchanged : (x : Refusal) → givenOf s lengths r b l .reply ≡ refused x → (r′ ≡ r) × (l′ ≡ l)
+  unchanged x e = (
+    g .gives .settles .exact ∙ by-refused (givenOf s lengths r b l .reply) x b (drawnTo s (r .settings .chroms) b (openedBy (stageOf r) s (headsOf r))) r (ringOf r′) e,
+    g .gives .still x e,
+  )
 
-  -- ---- "any two results allowed by a statement are equal": what is told, and what is kept as far as the run it stands for
+  -- ---- "any two results allowed by a statement are equal"
 
-  pub one-told : (u : Told) (k : Held) (m : Lent) → GivesInPlace s lengths h b l u k m → t ≡ u
+  pub one-told : (u : Told) (k : Run) (m : Lent) → GivesInPlace s lengths r b l u k m → t ≡ u
   one-told u k m f = g .told ∙ sym (f .told)
 
-  pub one-held : (u : Told) (k : Held) (m : Lent) → GivesInPlace s lengths h b l u k m → runOf h′ ≡ runOf k → h′ ≡ k
-  one-held u k m f e = g .held ∙ ap heldOf e ∙ sym (f .held)
+  -- the run and what was lent, as far as the call by value says them
+  pub one-run : (u : Told) (k : Run) (m : Lent) → GivesInPlace s lengths r b l u k m
+      → Alike (givenOf s lengths r b l .reply) (record { run = r′; answer = answered s lengths r b l }) l′ (record { run = k; answer = answered s lengths r b l }) m
+  one-run u k m f = one-result s lengths r b l (record { run = r′; answer = answered s lengths r b l }) l′ (record { run = k; answer = answered s lengths r b l }) m (g .gives) (f .gives)
 
-pub one-number : (p : Plan) (n m : ℕ) (h k : Held) → BeginsInPlace p n h → BeginsInPlace p m k → n ≡ m
-one-number p n m h k f g = f .number ∙ sym (g .number)
+-- ---- bases in columns that differ in length
 
-pub one-begun : (p : Plan) (n m : ℕ) (h k : Held) → BeginsInPlace p n h → BeginsInPlace p m k → h ≡ k
-one-begun p n m h k f g = f .held ∙ sym (g .held)
+-- none of them was given: the run, all that was lent and the counts stay, and what is told is 1, or the end again of a run that has ended
+module _ (s : Cols) (lengths : List ℕ) (t : Cols) (r : Run) (l : Lent) (ns : List ℕ) (a : Swept) (r′ : Run) (l′ : Lent) (ns′ : List ℕ) (g : GivesAllInPlace s lengths t r l ns a r′ l′ ns′) (d : Even t ns → ⊥) where
+  pub uneven-unchanged : (r′ ≡ r) × ((l′ ≡ l) × (ns′ ≡ ns))
+  uneven-unchanged = (ap (λ (p : Passed). p .run) (g .gives .uneven d .passed), (g .gives .uneven d .lent, g .gives .uneven d .counts))
+
+  pub uneven-told : a ≡ record { bases = 0; records = 0; last = toldOf (unevenBy (stageOf r)) }
+  uneven-told =
+      let e = g .gives .uneven d .passed in
+      let none : a .bases ≡ 0 = ap (λ (p : Passed). p .bases) e in
+      let no-records : a .records ≡ 0 = ap (λ (p : Passed). p .records) e in
+      let last : a .last ≡ toldOf (unevenBy (stageOf r)) = g .told ∙ ap (λ (p : Passed). toldOf (p .last)) e in
+      rw (none, no-records, last)
+
+-- ---- a start: "any two results allowed by a statement are equal"
+
+pub one-number : (p : Plan) (n m : ℕ) (r k : Run) → BeginsInPlace p n r → BeginsInPlace p m k → n ≡ m
+one-number p n m r k f g = f .number ∙ sym (g .number)
+
+pub one-begun : (p : Plan) (n m : ℕ) (r k : Run) → BeginsInPlace p n r → BeginsInPlace p m k → r ≡ k
+one-begun p n m r k f g = f .run ∙ sym (g .run)
 
 -- ---- the ranges
 
 -- "1 to 8 streams."
-few-refused : (p : Plan) → leb 1 (p .streams) && leb (p .streams) 8 ≡ false → startOf p .begins ≡ begins.Refused unbegun.Sizes
+few-refused : (p : Plan) → within 1 8 (p .settings .streams) ≡ false → startOf p .begins ≡ begins.Refused unbegun.Sizes
 unfolding refusedOf refusesStart
 few-refused p e = go (lendable p)
   where
-    go : (t : Bool) → begunBy (cond t (refusesStart (p .streams) (namesOf p) (p .room)) (some unbegun.Sizes)) ≡ begins.Refused unbegun.Sizes
+    go : (t : Bool) → begunBy (cond t (refusesStart (p .settings) (namesOf p)) (some unbegun.Sizes)) ≡ begins.Refused unbegun.Sizes
     go true = rw e
     go false = refl
 
-module _ (from to : List ℕ) (room : ℕ) (text names-from names-to : List ℕ) (s : Cols) where
-  -- "lent columns differ in length"
-  pub uneven-refused : (length from ≡ length to → ⊥) → startOf (planOf from to room text names-from names-to s) .begins ≡ begins.Refused unbegun.Sizes
-  uneven-refused d = few-refused (planOf from to room text names-from names-to s) (rw (ne-eqb (length from) (length to) d))
-
-  pub many-refused : 8 < length from → startOf (planOf from to room text names-from names-to s) .begins ≡ begins.Refused unbegun.Sizes
-  many-refused d = few-refused (planOf from to room text names-from names-to s) (go (eqb (length from) (length to)))
+module _ (x : Settings) (from to : List ℕ) (text names-from names-to : List ℕ) (s : Cols) where
+  -- "a range for each stream": "lent columns differ in length"
+  pub uneven-refused : ((length from ≡ x .streams) × (length to ≡ x .streams) → ⊥) → startOf (planOf x from to text names-from names-to s) .begins ≡ begins.Refused unbegun.Sizes
+  uneven-refused d = few-refused (planOf x from to text names-from names-to s) (go (eqb (length from) (x .streams)) (eqb (length to) (x .streams)) refl refl)
     where
-      go : (t : Bool) → leb 1 (cond t (length from) 0) && leb (cond t (length from) 0) 8 ≡ false
-      go true = rw (lt-leb (length from) 8 d, le-leb 1 (length from) (omega (arith, d)))
+      go : (t u : Bool) → eqb (length from) (x .streams) ≡ t → eqb (length to) (x .streams) ≡ u → within 1 8 (streamsIn (x .streams) (length from) (length to)) ≡ false
+      go true true a b = absurd (d (eqb-true (length from) (x .streams) a, eqb-true (length to) (x .streams) b))
+      go true false a b = rw (a, b)
+      go false u a b = rw a
+
+  pub many-refused : 8 < x .streams → startOf (planOf x from to text names-from names-to s) .begins ≡ begins.Refused unbegun.Sizes
+  many-refused d = few-refused (planOf x from to text names-from names-to s) (go (eqb (length from) (x .streams) && eqb (length to) (x .streams)))
+    where
+      go : (t : Bool) → within 1 8 (cond t (x .streams) 0) ≡ false
+      go true = rw (lt-leb (x .streams) 8 d, le-leb 1 (x .streams) (omega (arith, d)))
       go false = refl

@@ -1,4 +1,4 @@
--- Laws of the run in numbers, and what a host may rely on.
-pub mod HeldLaws
+-- Laws of the calls, and what a host may rely on.
+pub mod CallLaws
 pub mod HostLaws
 pub mod Walking

@@ -1,25 +1,27 @@
 -- What the calls on a run kept in place say, for all inputs.
 use mathlib.Core.Path.{_≡_}
-use mathlib.Core.Bool.{cond}
+use mathlib.Core.Bool.{cond, _&&_}
 use mathlib.Core.List.{List, [], _∷_}
 use Prim.Native.Nat.{ℕ}
 use lib.Dec.{eqb}
 use lib.ListN.{length, getD}
 use Rattle.rules.specs.declared.Base.{Base}
 use Rattle.rules.specs.declared.Answer.{Answer}
+use Rattle.rules.specs.declared.Offer.{Offer}
+use Rattle.rules.specs.declared.Settings.{Settings}
 use Rattle.rules.specs.Numbers.{unbegunNumber}
 use Rattle.rules.specs.Call.{answerOf}
 use Rattle.heads.specs.View.{Cols}
-use Rattle.sweep.specs.declared.start.Begins.{Begins}
-use Rattle.sweep.specs.declared.start.Begins.the-variants.{Begun, Refused}
 use Rattle.pulls.specs.Pulls.{Lent}
-use Rattle.sweep.specs.Start.{Plan, plan, startOf}
-use Rattle.sweep.specs.Give.{Gives, givenOf}
+use Rattle.runs.specs.declared.Run.{Run}
+use Rattle.runs.specs.declared.start.Begins.{Begins}
+use Rattle.runs.specs.declared.start.Begins.the-variants.{Begun, Refused}
+use Rattle.runs.specs.Start.{Plan, plan, startOf}
+use Rattle.runs.specs.Comes.{givenOf}
+use Rattle.step.specs.Give.{Gives}
 use Rattle.many.specs.Many.{GivesAll}
-use Rattle.inplace.specs.declared.held.Held.{Held}
 use Rattle.inplace.specs.declared.Swept.{Swept}
 use Rattle.inplace.specs.declared.told.Told.{Told}
-use Rattle.inplace.specs.Held.{runOf, heldOf}
 use Rattle.inplace.specs.Told.{toldOf}
 
 -- ---- a run begins
@@ -28,13 +30,14 @@ use Rattle.inplace.specs.Told.{toldOf}
 abbrev pub eightOf : List ℕ → List ℕ
 eightOf l = getD l 0 0 ∷ getD l 1 0 ∷ getD l 2 0 ∷ getD l 3 0 ∷ getD l 4 0 ∷ getD l 5 0 ∷ getD l 6 0 ∷ getD l 7 0 ∷ []
 
--- "a range for each stream": as many streams as ranges; none where the ranges' two columns differ in length, which is 1
-abbrev pub streamsIn : ℕ → ℕ → ℕ
-streamsIn from to = cond (eqb from to) from 0
+-- "a range for each stream": none where the ranges' two columns are not as long as there are streams, which is 1
+abbrev pub streamsIn : ℕ → ℕ → ℕ → ℕ
+streamsIn n from to = cond (eqb from n && eqb to n) n 0
 
 -- what a run is begun with, its ranges in two columns
-abbrev pub planOf : List ℕ → List ℕ → ℕ → List ℕ → List ℕ → List ℕ → Cols → Plan
-planOf from to room text names-from names-to s = plan (streamsIn (length from) (length to)) (eightOf from) (eightOf to) room text names-from names-to s
+abbrev pub planOf : Settings → List ℕ → List ℕ → List ℕ → List ℕ → List ℕ → Cols → Plan
+planOf x from to text names-from names-to s =
+    plan (record { streams = streamsIn (x .streams) (length from) (length to); chroms = x .chroms; room = x .room }) (eightOf from) (eightOf to) text names-from names-to s
 
 -- 0, or "At a start: 1, then 2."
 abbrev pub begunNumber : Begins → ℕ
@@ -42,9 +45,9 @@ begunNumber Begun = 0
 begunNumber (Refused x) = unbegunNumber x
 
 -- the answer, and what is kept then: the run that begins, or the run of no streams
-pub record BeginsInPlace (p : Plan) (n : ℕ) (h′ : Held) : Type 0 where
+pub record BeginsInPlace (p : Plan) (n : ℕ) (r′ : Run) : Type 0 where
   pub number : n ≡ begunNumber (startOf p .begins)
-  pub held : h′ ≡ heldOf (startOf p .run)
+  pub run : r′ ≡ startOf p .run
 
 -- ---- a base is given
 
@@ -52,22 +55,19 @@ abbrev pub baseOf : ℕ → ℕ → ℕ → Base
 baseOf chrom start stop = record { chrom = record { 0 = chrom }; start = start; stop = stop }
 
 -- what the base b gets of the run that is kept
-abbrev pub answered : Cols → List ℕ → Held → Base → Lent → Answer
-answered s lengths h b l = answerOf (givenOf s lengths (runOf h) b l .reply)
+abbrev pub answered : Cols → List ℕ → Run → Base → Lent → Answer
+answered s lengths r b l = answerOf (givenOf s lengths r b l .reply)
 
--- as `Run::give` says of the run that is kept before and after: the answer in numbers, the run and all that was lent
-pub record GivesInPlace (s : Cols) (lengths : List ℕ) (h : Held) (b : Base) (l : Lent) (t : Told) (h′ : Held) (l′ : Lent) : Type 0 where
-  pub told : t ≡ toldOf (answered s lengths h b l)
-  pub gives : Gives s lengths (runOf h) b l (record { run = runOf h′; answer = answered s lengths h b l }) l′
-  -- what is kept is fixed by the run that it stands for
-  pub held : h′ ≡ heldOf (runOf h′)
+-- as the call by value says of the run that is kept before and after: the answer in numbers, the run and all that was lent
+pub record GivesInPlace (s : Cols) (lengths : List ℕ) (r : Run) (b : Base) (l : Lent) (t : Told) (r′ : Run) (l′ : Lent) : Type 0 where
+  pub told : t ≡ toldOf (answered s lengths r b l)
+  pub gives : Gives s lengths r b l (record { run = r′; answer = answered s lengths r b l }) l′
 
 -- ---- bases are given one after the other
 
--- as `many::give_all` says of the run that goes in and comes out
-pub record GivesAllHeld (s : Cols) (lengths : List ℕ) (t : Cols) (h : Held) (l : Lent) (ns : List ℕ) (a : Swept) (l′ : Lent) (ns′ : List ℕ) : Type 0 where
+-- as the call by value says of the run that is kept before and after; what was offered last is not told
+pub record GivesAllInPlace (s : Cols) (lengths : List ℕ) (t : Cols) (r : Run) (l : Lent) (ns : List ℕ) (a : Swept) (r′ : Run) (l′ : Lent) (ns′ : List ℕ) : Type 0 where
   pub answer : Answer
+  pub offer : Offer
   pub told : a .last ≡ toldOf answer
-  pub gives : GivesAll s lengths t (runOf h) l ns (record { run = runOf (a .run); bases = a .bases; records = a .records; last = answer }) l′ ns′
-  -- what is kept is fixed by the run that it stands for
-  pub held : a .run ≡ heldOf (runOf (a .run))
+  pub gives : GivesAll s lengths t r l ns (record { run = r′; bases = a .bases; records = a .records; offer = offer; last = answer }) l′ ns′

@@ -1,5 +1,4 @@
--- A run and an answer in numbers, and what the calls for hosts say.
-pub mod Held
+-- An answer in numbers, and what the calls for hosts say.
 pub mod Told
 pub mod Calls
 pub mod Tally

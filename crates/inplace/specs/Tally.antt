@@ -3,8 +3,8 @@ use mathlib.Core.Path.{_≡_}
 use mathlib.Core.List.{List}
 use Prim.Native.Nat.{ℕ}
 use lib.ListN.{length}
-use Rattle.text.specs.declared.Reading.{Reading}
-use Rattle.text.specs.Table.{Found, Fills, answer, refusalOf, rowsOf}
+use Rattle.fields.specs.declared.Reading.{Reading}
+use Rattle.fields.specs.Table.{Found, Fills, answer, refusalOf, rowsOf}
 use Rattle.inplace.specs.declared.readers.Tally.{Tally}
 
 -- the refusal number of an answer, and the rows ahead of its end

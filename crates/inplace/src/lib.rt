@@ -1,29 +1,26 @@
 // Calls for hosts: a run kept in place by its caller, and the readers.
-mod held;
 mod readers;
 mod told;
 
-pub use held::Held;
-pub use held::Mark;
 pub use readers::Tally;
 use rules::Base;
 use rules::Chrom;
+pub use rules::Settings;
 use rules::Unbegun;
-use sweep::Begins;
-use sweep::Run;
+use runs::Begins;
+pub use runs::Mark;
+pub use runs::Run;
 pub use told::Told;
 ghost use mathlib.Core.Path.{_≡_};
 ghost use lib.ListN.{getD};
 ghost use Rattle.heads.specs.View.{cols};
-ghost use Rattle.queue.specs.Ring.{cells};
 ghost use Rattle.pulls.specs.Pulls.{lent};
-ghost use Rattle.inplace.specs.Calls.{eightOf, streamsIn, planOf, begunNumber, baseOf, BeginsInPlace, GivesInPlace, GivesAllHeld};
+ghost use Rattle.inplace.specs.Calls.{eightOf, streamsIn, planOf, begunNumber, baseOf, BeginsInPlace, GivesInPlace, GivesAllInPlace};
 
-// What bases came to that were given one after the other: the run after them, how many were answered, how many records these have together,
-// and what the next one got, where it was given and got no records; else that is all 0.
+// What bases came to that were given one after the other: how many were answered, how many records these have together, and what the next one got,
+// where it was given and got no records; else that is all 0.
 #[repr(C)]
 pub struct Swept {
-    pub run: Held,
     pub bases: usize,
     pub records: usize,
     pub last: Told,
@@ -31,14 +28,20 @@ pub struct Swept {
 
 // A run that was begun, and the refusal's number or 0.
 struct Begun {
-    held: Held,
+    run: Run,
     number: u64,
 }
 
 // A run after a base, and what the base got.
 struct Stepped {
-    held: Held,
+    run: Run,
     told: Told,
+}
+
+// A run after bases, and what these came to.
+struct Carried {
+    run: Run,
+    swept: Swept,
 }
 
 // The number of what a start answers.
@@ -80,21 +83,21 @@ fn eight_of(s: &[usize]) -> [usize; 8]
     ]
 }
 
-// How many streams there are: none where the two ends of their ranges are not of one number.
-fn streams_in(from: usize, to: usize) -> usize
-    ensures { λ n. ⌜ n ≡ streamsIn from to ⌝ }
+// How many streams there are: none where the two ends of their ranges are not of that number.
+fn streams_in(streams: usize, from: usize, to: usize) -> usize
+    ensures { λ n. ⌜ n ≡ streamsIn streams from to ⌝ }
 {
-    if from == to {
-        return from;
+    if (from == streams) & (to == streams) {
+        return streams;
     }
     0
 }
 
-// Begins a run: the run as a host keeps it, and the number.
-fn begin_held(
+// Begins a run: the run by value, and the number.
+fn begin_run(
+    settings: Settings,
     from: &[usize],
     to: &[usize],
-    room: usize,
     text: &[u8],
     names_from: &[usize],
     names_to: &[usize],
@@ -102,17 +105,21 @@ fn begin_held(
     start: &[u64],
     stop: &[u64],
 ) -> Begun
-    ensures { λ s. ⌜ BeginsInPlace (planOf (now (from .entry)) (now (to .entry)) room (now (text .entry)) (now («names_from» .entry)) (now («names_to» .entry))
-        (cols (now (chrom .entry)) (now (start .entry)) (now (stop .entry)))) (s .number) (s .held) ⌝ }
+    ensures { λ s. ⌜ BeginsInPlace (planOf settings (now (from .entry)) (now (to .entry)) (now (text .entry)) (now («names_from» .entry)) (now («names_to» .entry))
+        (cols (now (chrom .entry)) (now (start .entry)) (now (stop .entry)))) (s .number) (s .run) ⌝ }
 {
-    let n = streams_in(from.len(), to.len());
+    let streams = streams_in(settings.streams, from.len(), to.len());
+    let fixed = Settings {
+        streams: streams,
+        chroms: settings.chroms,
+        room: settings.room,
+    };
     let begins = eight_of(from);
     let ends = eight_of(to);
     let s = Run::start(
-        n,
+        fixed,
         begins,
         ends,
-        room,
         text,
         names_from,
         names_to,
@@ -122,16 +129,15 @@ fn begin_held(
     );
     let run = s.run;
     let b = s.begins;
-    let held = held::held_of(run);
     Begun {
-        held: held,
+        run: run,
         number: begun_number(b),
     }
 }
 
-// Gives a base to a run as a host keeps it.
-fn give_held(
-    h: Held,
+// Gives a base to a run by value.
+fn give_one(
+    run: Run,
     bchrom: u64,
     bstart: u64,
     bstop: u64,
@@ -139,55 +145,80 @@ fn give_held(
     start: &[u64],
     stop: &[u64],
     lengths: &[u64],
-    qstream: &mut [u64],
-    qrow: &mut [u64],
-    qstart: &mut [u64],
-    qstop: &mut [u64],
-    streams: &mut [u64],
-    rows: &mut [u64],
+    queue: &mut [[u64; 4]],
+    answers: &mut [[u64; 2]],
 ) -> Stepped
-    ensures { λ s. ⌜ GivesInPlace (cols (now (chrom .entry)) (now (start .entry)) (now (stop .entry))) (now (lengths .entry)) h (baseOf bchrom bstart bstop)
-        (lent (cells (now (qstream .entry)) (now (qrow .entry)) (now (qstart .entry)) (now (qstop .entry))) (now (streams .entry)) (now (rows .entry))) (s .told) (s .held)
-        (lent (cells (now (qstream .exit)) (now (qrow .exit)) (now (qstart .exit)) (now (qstop .exit))) (now (streams .exit)) (now (rows .exit))) ⌝ }
+    ensures { λ s. ⌜ GivesInPlace (cols (now (chrom .entry)) (now (start .entry)) (now (stop .entry))) (now (lengths .entry)) run (baseOf bchrom bstart bstop)
+        (lent (now (queue .entry)) (now (answers .entry))) (s .told) (s .run) (lent (now (queue .exit)) (now (answers .exit))) ⌝ }
 {
-    let r = held::run_of(h);
     let c = Chrom(bchrom);
     let b = Base {
         chrom: c,
         start: bstart,
         stop: bstop,
     };
-    let g = r.give(
-        b,
-        chrom,
-        start,
-        stop,
-        lengths,
-        qstream,
-        qrow,
-        qstart,
-        qstop,
-        streams,
-        rows,
-    );
+    let g = sweep::give(run, b, chrom, start, stop, lengths, queue, answers);
     let after = g.run;
     let answer = g.answer;
-    let held = held::held_of(after);
     let told = told::told_of(answer);
     Stepped {
-        held: held,
+        run: after,
         told: told,
     }
 }
 
-// Begins a run in place. Given are, for each stream, where its rows begin and end in the lent columns of chromosomes, starts and stops,
-// the queue's room, and the chromosomes' names, by where each begins and ends in a text. 0 where a run begins, else the refusal.
+// Gives the bases of three columns to a run by value.
+fn give_many(
+    run: Run,
+    bchrom: &[u64],
+    bstart: &[u64],
+    bstop: &[u64],
+    chrom: &[u64],
+    start: &[u64],
+    stop: &[u64],
+    lengths: &[u64],
+    queue: &mut [[u64; 4]],
+    answers: &mut [[u64; 2]],
+    counts: &mut [usize],
+) -> Carried
+    ensures { λ s. ⌜ GivesAllInPlace (cols (now (chrom .entry)) (now (start .entry)) (now (stop .entry))) (now (lengths .entry)) (cols (now (bchrom .entry)) (now (bstart .entry)) (now (bstop .entry))) run
+        (lent (now (queue .entry)) (now (answers .entry))) (now (counts .entry)) (s .swept) (s .run) (lent (now (queue .exit)) (now (answers .exit))) (now (counts .exit)) ⌝ }
+{
+    let p = many::give_all(
+        run,
+        bchrom,
+        bstart,
+        bstop,
+        chrom,
+        start,
+        stop,
+        lengths,
+        queue,
+        answers,
+        counts,
+    );
+    let after = p.run;
+    let answer = p.last;
+    let told = told::told_of(answer);
+    let swept = Swept {
+        bases: p.bases,
+        records: p.records,
+        last: told,
+    };
+    Carried {
+        run: after,
+        swept: swept,
+    }
+}
+
+// Begins a run in place. Given are what is fixed from its start, for each stream where its rows begin and end in the lent columns of chromosomes, starts
+// and stops, and the chromosomes' names, by where each begins and ends in a text. 0 where a run begins, else the refusal.
 #[no_mangle]
 pub extern "C" fn cedarlash_begin(
-    run: &mut Held,
+    run: &mut Run,
+    settings: Settings,
     from: &[usize],
     to: &[usize],
-    room: usize,
     text: &[u8],
     names_from: &[usize],
     names_to: &[usize],
@@ -195,13 +226,13 @@ pub extern "C" fn cedarlash_begin(
     start: &[u64],
     stop: &[u64],
 ) -> u64
-    ensures { λ n. ⌜ BeginsInPlace (planOf (now (from .entry)) (now (to .entry)) room (now (text .entry)) (now («names_from» .entry)) (now («names_to» .entry))
+    ensures { λ n. ⌜ BeginsInPlace (planOf settings (now (from .entry)) (now (to .entry)) (now (text .entry)) (now («names_from» .entry)) (now («names_to» .entry))
         (cols (now (chrom .entry)) (now (start .entry)) (now (stop .entry)))) n (now (run .exit)) ⌝ }
 {
-    let s = begin_held(
+    let s = begin_run(
+        settings,
         from,
         to,
-        room,
         text,
         names_from,
         names_to,
@@ -209,14 +240,14 @@ pub extern "C" fn cedarlash_begin(
         start,
         stop,
     );
-    *run = s.held;
+    *run = s.run;
     s.number
 }
 
-// Gives a base to the run in place. Lent are the streams' columns, the chromosomes' lengths, the queue's memory and the answer columns.
+// Gives a base to the run in place. Lent are the streams' columns, the chromosomes' lengths, the queue's slots and the answer rows.
 #[no_mangle]
 pub extern "C" fn cedarlash_give(
-    run: &mut Held,
+    run: &mut Run,
     bchrom: u64,
     bstart: u64,
     bstop: u64,
@@ -224,18 +255,13 @@ pub extern "C" fn cedarlash_give(
     start: &[u64],
     stop: &[u64],
     lengths: &[u64],
-    qstream: &mut [u64],
-    qrow: &mut [u64],
-    qstart: &mut [u64],
-    qstop: &mut [u64],
-    streams: &mut [u64],
-    rows: &mut [u64],
+    queue: &mut [[u64; 4]],
+    answers: &mut [[u64; 2]],
 ) -> Told
     ensures { λ t. ⌜ GivesInPlace (cols (now (chrom .entry)) (now (start .entry)) (now (stop .entry))) (now (lengths .entry)) (now (run .entry)) (baseOf bchrom bstart bstop)
-        (lent (cells (now (qstream .entry)) (now (qrow .entry)) (now (qstart .entry)) (now (qstop .entry))) (now (streams .entry)) (now (rows .entry))) t (now (run .exit))
-        (lent (cells (now (qstream .exit)) (now (qrow .exit)) (now (qstart .exit)) (now (qstop .exit))) (now (streams .exit)) (now (rows .exit))) ⌝ }
+        (lent (now (queue .entry)) (now (answers .entry))) t (now (run .exit)) (lent (now (queue .exit)) (now (answers .exit))) ⌝ }
 {
-    let s = give_held(
+    let s = give_one(
         *run,
         bchrom,
         bstart,
@@ -244,23 +270,19 @@ pub extern "C" fn cedarlash_give(
         start,
         stop,
         lengths,
-        qstream,
-        qrow,
-        qstart,
-        qstop,
-        streams,
-        rows,
+        queue,
+        answers,
     );
-    *run = s.held;
+    *run = s.run;
     s.told
 }
 
-// Gives the bases of three columns to a run, one after the other, each as `cedarlash_give` would, until one gets no records, or fewer answer
-// rows are left than records can wait: many bases for the price of one call. The run goes in and comes out by value. The records of each base stand
-// in the answer columns behind those of the bases ahead of it, and its count stands in its place of `counts`.
+// Gives the bases of three columns to the run in place, one after the other, each as `cedarlash_give` would, until one gets no records, or fewer answer
+// rows are left than records can wait: many bases for the price of one call. The records of each base stand in the answer rows behind those of the bases
+// ahead of it, and its count stands in its place of `counts`.
 #[no_mangle]
 pub extern "C" fn cedarlash_give_all(
-    run: Held,
+    run: &mut Run,
     bchrom: &[u64],
     bstart: &[u64],
     bstop: &[u64],
@@ -268,21 +290,15 @@ pub extern "C" fn cedarlash_give_all(
     start: &[u64],
     stop: &[u64],
     lengths: &[u64],
-    qstream: &mut [u64],
-    qrow: &mut [u64],
-    qstart: &mut [u64],
-    qstop: &mut [u64],
-    streams: &mut [u64],
-    rows: &mut [u64],
+    queue: &mut [[u64; 4]],
+    answers: &mut [[u64; 2]],
     counts: &mut [usize],
 ) -> Swept
-    ensures { λ a. ⌜ GivesAllHeld (cols (now (chrom .entry)) (now (start .entry)) (now (stop .entry))) (now (lengths .entry)) (cols (now (bchrom .entry)) (now (bstart .entry)) (now (bstop .entry))) run
-        (lent (cells (now (qstream .entry)) (now (qrow .entry)) (now (qstart .entry)) (now (qstop .entry))) (now (streams .entry)) (now (rows .entry))) (now (counts .entry)) a
-        (lent (cells (now (qstream .exit)) (now (qrow .exit)) (now (qstart .exit)) (now (qstop .exit))) (now (streams .exit)) (now (rows .exit))) (now (counts .exit)) ⌝ }
+    ensures { λ a. ⌜ GivesAllInPlace (cols (now (chrom .entry)) (now (start .entry)) (now (stop .entry))) (now (lengths .entry)) (cols (now (bchrom .entry)) (now (bstart .entry)) (now (bstop .entry))) (now (run .entry))
+        (lent (now (queue .entry)) (now (answers .entry))) (now (counts .entry)) a (now (run .exit)) (lent (now (queue .exit)) (now (answers .exit))) (now (counts .exit)) ⌝ }
 {
-    let r = held::run_of(run);
-    let p = many::give_all(
-        r,
+    let s = give_many(
+        *run,
         bchrom,
         bstart,
         bstop,
@@ -290,22 +306,10 @@ pub extern "C" fn cedarlash_give_all(
         start,
         stop,
         lengths,
-        qstream,
-        qrow,
-        qstart,
-        qstop,
-        streams,
-        rows,
+        queue,
+        answers,
         counts,
     );
-    let after = p.run;
-    let answer = p.last;
-    let kept = held::held_of(after);
-    let told = told::told_of(answer);
-    Swept {
-        run: kept,
-        bases: p.bases,
-        records: p.records,
-        last: told,
-    }
+    *run = s.run;
+    s.swept
 }

@@ -1,6 +1,6 @@
 // The readers for hosts: a text to columns that the host lends.
 use chroms::Check;
-use text::Reading;
+use fields::Reading;
 ghost use mathlib.Core.Path.{_≡_};
 ghost use lib.ListN.{length};
 ghost use Rattle.chroms.specs.Entry.{listFound, fromOf, toOf, lenOf};

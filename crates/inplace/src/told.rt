@@ -2,9 +2,7 @@
 use rules::Answer;
 use rules::End;
 use rules::Offer;
-use rules::Refusal;
 ghost use mathlib.Core.Path.{_≡_};
-ghost use Rattle.rules.specs.Numbers.{refusalNumber};
 ghost use Rattle.inplace.specs.Told.{refusedTold, toldOf, foundTold, endTold};
 
 // What a base got, in numbers: the refusal or 0; the count of its records; of 7 and 8 stream and row; whether a place is offered (1),
@@ -32,19 +30,6 @@ fn refused_told(number: u64, stream: u64, row: u64) -> Told
         offered: 0,
         chrom: 0,
         stop: 0,
-    }
-}
-
-// The number of a refusal that leaves the run unchanged.
-fn refusal_number(x: Refusal) -> u64
-    ensures { λ n. ⌜ n ≡ refusalNumber x ⌝ }
-{
-    match x {
-        Refusal::Sizes => 1,
-        Refusal::Beyond => 3,
-        Refusal::Unlisted => 4,
-        Refusal::Unordered => 5,
-        Refusal::Reversed => 6,
     }
 }
 
@@ -95,7 +80,7 @@ pub fn told_of(a: Answer) -> Told
 {
     match a {
         Answer::Found(n, o) => found_told(n, o),
-        Answer::Refused(x) => refused_told(refusal_number(x), 0, 0),
+        Answer::Refused(x) => refused_told(measures::refusal_number(x), 0, 0),
         Answer::Ended(e) => end_told(e),
     }
 }

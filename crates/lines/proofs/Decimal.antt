@@ -8,8 +8,8 @@ use native.Mathlib.Decide.{decLt}
 use native.Mathlib.Nat.{pow-suc}
 use lib.ListN.{length, length-append}
 use borrow.Author.Tests.{lt-ltb, le-ltb}
-use Rattle.text.specs.Number.{good, digits, value, isDigit, numberOf}
-use Rattle.text.proofs.Numbers.{digit-is, good-number}
+use Rattle.fields.specs.Number.{good, digits, value, isDigit, numberOf}
+use Rattle.fields.proofs.Numbers.{digit-is, good-number}
 use Rattle.lines.specs.Lines.{digit, spelled, decimal}
 
 -- ---- digit by digit

@@ -4,24 +4,24 @@ use mathlib.Core.Option.{Option}
 use mathlib.Core.List.{List}
 use Prim.Native.Nat.{ℕ}
 use lib.ListN.{getD, take}
-use Rattle.lists.specs.Build.{build}
+use Rattle.basics.specs.Build.{build}
 use Rattle.rules.specs.declared.Base.{Base}
 use Rattle.rules.specs.Call.{fresh}
 use Rattle.rules.specs.Call as rules
 use Rattle.rules.specs.Job.{replies, answers}
-use Rattle.text.specs.Names.{names}
+use Rattle.fields.specs.Names.{names}
 use Rattle.heads.specs.View.{Cols}
 use Rattle.queue.specs.Ring.{Cells}
 use Rattle.admit.specs.Gates.{lengthsOf}
 use Rattle.lines.specs.declared.Laid.{Laid}
 use Rattle.lines.specs.Laid.{Lays}
-use Rattle.sweep.specs.declared.Run.{Run}
-use Rattle.sweep.specs.View.{runOf}
-use Rattle.sweep.specs.Start.{startOf}
-use Rattle.texts.specs.Texts.{Texts, Fault, room, namesOf, basesOf, jobOf}
-use Rattle.texts.specs.Parted.{textsOf}
-use Rattle.texts.specs.Read.{baseIn}
-use Rattle.texts.specs.declared.Read.{Read}
+use Rattle.runs.specs.declared.Run.{Run}
+use Rattle.runs.specs.View.{runOf}
+use Rattle.runs.specs.Start.{startOf}
+use Rattle.inputs.specs.Texts.{Texts, Fault, room, namesOf, basesOf, jobOf}
+use Rattle.inputs.specs.Parted.{textsOf}
+use Rattle.inputs.specs.Read.{baseIn}
+use Rattle.inputs.specs.declared.Read.{Read}
 use Rattle.walk.specs.Run.{Comes, Fine, Slots, Begins, planOf}
 use Rattle.walk.proofs.Beginning.{begins}
 use Rattle.walk.proofs.FineLaws.{list-is}

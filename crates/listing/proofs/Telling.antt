@@ -5,9 +5,9 @@ use mathlib.Core.List.{List, [], _∷_, _++_, map, append-nil, append-assoc}
 use Prim.Native.Nat.{ℕ, suc, _+_, _-_, _≤_, _<_}
 use native.Mathlib.Omega.{arith}
 use lib.ListN.{length, getD}
-use Rattle.lists.specs.Lists.{All, nil, cons}
-use Rattle.lists.specs.Build.{build}
-use Rattle.lists.proofs.BuildLaws.{build-front, build-none}
+use Rattle.basics.specs.Lists.{All, nil, cons}
+use Rattle.basics.specs.Build.{build}
+use Rattle.basics.proofs.BuildLaws.{build-front, build-none}
 use Rattle.rules.specs.declared.Base.{Base}
 use Rattle.rules.specs.declared.Answer.{Answer}
 use Rattle.rules.specs.declared.Answer.the-variants as answer
@@ -23,11 +23,12 @@ use Rattle.lines.specs.declared.Laid.the-variants.{Whole, Part}
 use Rattle.lines.specs.Laid.{Lays}
 use Rattle.lines.specs.Lines.{lineB}
 use Rattle.lines.proofs.LaidLaws.{lays-none, lays-append, lays-part}
-use Rattle.sweep.specs.declared.Run.{Run}
-use Rattle.sweep.specs.declared.Given.{Given}
-use Rattle.sweep.specs.View.{runOf}
+use Rattle.runs.specs.declared.Run.{Run}
+use Rattle.runs.specs.declared.Given.{Given}
+use Rattle.runs.specs.View.{runOf}
 use Rattle.pulls.specs.Pulls.{Lent, lent}
-use Rattle.sweep.specs.Give.{rightOf, givenOf, Gives}
+use Rattle.step.specs.Give.{Gives}
+use Rattle.runs.specs.Comes.{rightOf, givenOf}
 use Rattle.replies.specs.declared.Listed.{Listed}
 use Rattle.replies.specs.Lines.{linesOf}
 use Rattle.replies.specs.Lines as replies
@@ -35,8 +36,8 @@ use Rattle.replies.specs.List.{Lists}
 use Rattle.demands.proofs.KeptLaws.{Hits, give-hits, give-holds}
 use Rattle.demands.proofs.RunAnswers.{right-given}
 use Rattle.demands.proofs.ComesBack.{Returns, returns}
-use Rattle.texts.specs.Texts.{room}
-use Rattle.texts.specs.Read.{baseIn}
+use Rattle.inputs.specs.Texts.{room}
+use Rattle.inputs.specs.Read.{baseIn}
 use Rattle.walk.specs.Run.{Own, Comes, Bases}
 use Rattle.listing.specs.Listing.{recordLine, replyLines, runLines}
 use Rattle.listing.specs.Run.{linesFrom, stepOf}
@@ -68,7 +69,7 @@ reply-lines s from ns i b (ended e) more h = refl
 comes-next : (s : Cols) (lengths : List ℕ) (r : Run) (b : Base) (l : Lent) (g : Given) (l′ : Lent) → Gives s lengths r b l g l′ → Comes s lengths r (l .cells) → Comes s lengths (g .run) (l′ .cells)
 comes-next s lengths r b l g l′ gives c =
     let back : Returns s lengths r (g .run) (l′ .cells) = returns s lengths r b l g l′ gives (c .blameless) (c .whole) in
-    let held = give-holds (Own s (r .from)) (lengthsOf lengths) (r .ring .room) (record { right = rightOf s lengths r l; rows = length (l .rows) }) (runOf s (l .cells) r) b (c .left, c .queue) in
+    let held = give-holds (Own s (r .from)) (lengthsOf lengths) (r .settings .room) (record { right = rightOf s lengths r l; rows = length (l .answers) }) (runOf s (l .cells) r) b (c .left, c .queue) in
     record {
       blameless = back .blameless;
       whole = back .whole;
@@ -89,19 +90,17 @@ bases-fewer w h = record { inside = w .inside; chrom = omega (arith, w .chrom); 
 pub record Telling (ns : List (List ℕ)) (lengths : List ℕ) (b s : Cols) (n : ℕ) (whole : List (List ℕ)) (old : List ℕ) (i at : ℕ) (r : Run) (l : Lent) (out : List ℕ) : Type 0 where
   pub inside : i ≤ n
   pub comes : Comes s lengths r (l .cells)
-  pub streams : length (l .streams) ≡ room
-  pub rows : length (l .rows) ≡ room
+  pub answers : length (l .answers) ≡ room
   pub sofar : List (List ℕ)
   pub rest : sofar ++ linesFrom ns lengths b s (n - i) i r (l .cells) ≡ whole
   pub laid : Lays old 0 sofar (Whole at) out
 
-pub telling-start : (ns : List (List ℕ)) (lengths : List ℕ) (b s : Cols) (n : ℕ) (r : Run) (l : Lent) (out : List ℕ) → Comes s lengths r (l .cells) → length (l .streams) ≡ room → length (l .rows) ≡ room →
+pub telling-start : (ns : List (List ℕ)) (lengths : List ℕ) (b s : Cols) (n : ℕ) (r : Run) (l : Lent) (out : List ℕ) → Comes s lengths r (l .cells) → length (l .answers) ≡ room →
     Telling ns lengths b s n (linesFrom ns lengths b s n 0 r (l .cells)) out 0 0 r l out
-telling-start ns lengths b s n r l out c ss rs = record {
+telling-start ns lengths b s n r l out c enough = record {
   inside = omega arith;
   comes = c;
-  streams = ss;
-  rows = rs;
+  answers = enough;
   sofar = [];
   rest = ap (λ (m : ℕ). linesFrom ns lengths b s m 0 r (l .cells)) (let e : n - 0 ≡ n = omega arith in e);
   laid = lays-none out 0 (omega arith);
@@ -127,13 +126,13 @@ module _ {ns : List (List ℕ)} {lengths : List ℕ} {b s : Cols} {n : ℕ} {who
     later = linesFrom ns lengths b s (n - (i + 1)) (i + 1) (x .run) (l′ .cells)
 
     right : rightOf s lengths r l ≡ true
-    right = w .comes .blameless (l .streams) (l .rows) (omega (arith, w .comes .room, w .streams)) (w .rows ∙ sym (w .streams))
+    right = w .comes .blameless (l .answers) (omega (arith, w .comes .room, w .answers))
 
     given-is : givenOf s lengths r (baseIn b i) l ≡ give (lengthsOf lengths) room (lending room) (runOf s (l .cells) r) (baseIn b i)
     given-is = right-given s lengths r (baseIn b i) l right ∙ ap (λ (q : ℕ). give (lengthsOf lengths) q (lending q) (runOf s (l .cells) r) (baseIn b i)) (w .comes .room)
 
     hits : Hits (Own s (r .from)) reply
-    hits = give-hits (Own s (r .from)) (lengthsOf lengths) (r .ring .room) (record { right = rightOf s lengths r l; rows = length (l .rows) }) (runOf s (l .cells) r) (baseIn b i) (w .comes .left, w .comes .queue)
+    hits = give-hits (Own s (r .from)) (lengthsOf lengths) (r .settings .room) (record { right = rightOf s lengths r l; rows = length (l .answers) }) (runOf s (l .cells) r) (baseIn b i) (w .comes .left, w .comes .queue)
 
     -- the lines from base i on: its own, and what follows
     lines-next : linesFrom ns lengths b s (n - i) i r (l .cells) ≡ replyLines ns i (baseIn b i) reply later
@@ -175,12 +174,11 @@ module _ {ns : List (List ℕ)} {lengths : List ℕ} {b s : Cols} {n : ℕ} {who
         go (Whole p) y k = subst (λ (ls : List (List ℕ)). Lays old 0 ls (Whole p) out′) (sym (append-nil (w .sofar ++ own)) ∙ ap (λ (ls : List (List ℕ)). (w .sofar ++ own) ++ ls) (sym (by-reply reply p later k)) ∙ whole-is) y
 
     -- it goes on at the next base
-    pub telling-on : {p : ℕ} → stepOf (x .answer) (x .lines) ≡ On p → length (l′ .streams) ≡ length (l .streams) → length (l′ .rows) ≡ length (l .rows) → Telling ns lengths b s n whole old (i + 1) p (x .run) l′ out′
-    telling-on {p} e ks kr = record {
+    pub telling-on : {p : ℕ} → stepOf (x .answer) (x .lines) ≡ On p → length (l′ .answers) ≡ length (l .answers) → Telling ns lengths b s n whole old (i + 1) p (x .run) l′ out′
+    telling-on {p} e kept = record {
       inside = omega arith;
       comes = comes-next s lengths r (baseIn b i) l (record { run = x .run; answer = x .answer }) l′ (h .gives) (w .comes);
-      streams = ks ∙ w .streams;
-      rows = kr ∙ w .rows;
+      answers = kept ∙ w .answers;
       sofar = w .sofar ++ own;
       rest = ap (λ (ls : List (List ℕ)). (w .sofar ++ own) ++ ls) (sym (goes-on reply (x .lines) later step)) ∙ whole-is;
       laid = subst (λ (v : Laid). Lays old 0 (w .sofar ++ own) v out′) (all-stand (answerOf reply) (x .lines) step) laid-next;
@@ -203,10 +201,6 @@ module _ {ns : List (List ℕ)} {lengths : List ℕ} {b s : Cols} {n : ℕ} {who
 
 -- all that is lent keeps its length
 pub record Lengths (l : Lent) (out : List ℕ) (l′ : Lent) (out′ : List ℕ) : Type 0 where
-  pub stream : length (l′ .cells .stream) ≡ length (l .cells .stream)
-  pub row : length (l′ .cells .row) ≡ length (l .cells .row)
-  pub start : length (l′ .cells .start) ≡ length (l .cells .start)
-  pub stop : length (l′ .cells .stop) ≡ length (l .cells .stop)
-  pub streams : length (l′ .streams) ≡ length (l .streams)
-  pub rows : length (l′ .rows) ≡ length (l .rows)
+  pub queue : length (l′ .cells) ≡ length (l .cells)
+  pub answers : length (l′ .answers) ≡ length (l .answers)
   pub buffer : length out′ ≡ length out

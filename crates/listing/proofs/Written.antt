@@ -17,11 +17,11 @@ use Rattle.lines.specs.Lines.{lineF}
 use Rattle.lines.specs.Laid.{joined, fitting, fitted, laidOf, onlyOf, Lays}
 use Rattle.lines.proofs.LaidLaws.{lays-only}
 use Rattle.heads.specs.View.{Cols}
-use Rattle.texts.specs.Texts.{Texts, Fault, fault, faultOf, namesOf, basesOf, jobOf}
-use Rattle.texts.specs.Read.{faultBy, Reads}
-use Rattle.texts.specs.declared.Read.{Read}
-use Rattle.texts.specs.declared.Verdict.{Verdict}
-use Rattle.texts.specs.declared.Verdict.the-variants as verdict
+use Rattle.inputs.specs.Texts.{Texts, Fault, fault, faultOf, namesOf, basesOf, jobOf}
+use Rattle.inputs.specs.Read.{faultBy, Reads}
+use Rattle.inputs.specs.declared.Read.{Read}
+use Rattle.inputs.specs.declared.Verdict.{Verdict}
+use Rattle.inputs.specs.declared.Verdict.the-variants as verdict
 use Rattle.rules.specs.Job.{answers}
 use Rattle.listing.specs.Listing.{runLines, unlessFault, listing}
 use Rattle.listing.specs.Run.{toldOf}

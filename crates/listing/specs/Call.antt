@@ -6,7 +6,7 @@ use Prim.Native.Nat.{ℕ}
 use lib.Dec.{leb}
 use lib.ListN.{length, drop}
 use Rattle.lines.specs.Laid.{joined, fitting}
-use Rattle.texts.specs.Texts.{Texts}
+use Rattle.inputs.specs.Texts.{Texts}
 use Rattle.listing.specs.Listing.{listing}
 use Rattle.listing.specs.declared.Listing.{Listing}
 

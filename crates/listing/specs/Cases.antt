@@ -9,15 +9,15 @@ use Rattle.rules.specs.Offer.{offer}
 use Rattle.rules.specs.Start.{refusesStart}
 use Rattle.rules.specs.Call.{give}
 use Rattle.rules.specs.Job.{replies}
-use Rattle.text.specs.Cut.{cut}
-use Rattle.text.specs.Number.{digits, value, numberOf}
-use Rattle.text.specs.Names.{same, numberIn}
-use Rattle.text.specs.Table.{readLines}
+use Rattle.fields.specs.Cut.{cut}
+use Rattle.fields.specs.Number.{digits, value, numberOf}
+use Rattle.fields.specs.Names.{same, numberIn}
+use Rattle.fields.specs.Table.{readLines}
 use Rattle.chroms.specs.Entry.{entryOf}
 use Rattle.rows.specs.Row.{rowOf}
 use Rattle.lines.specs.Lines.{spelled, decimal}
 use Rattle.lines.specs.Laid.{joined}
-use Rattle.texts.specs.Texts.{Texts, faultOf}
+use Rattle.inputs.specs.Texts.{Texts, faultOf}
 use Rattle.listing.specs.Listing.{listing}
 
 -- the texts, and the whole listing

@@ -9,7 +9,7 @@ use Rattle.rules.specs.Rows.{Record}
 use Rattle.rules.specs.Call.{Reply, found, refused, ended}
 use Rattle.rules.specs.Job.{answers}
 use Rattle.lines.specs.Lines.{lineB, lineR, lineX, lineE, lineF}
-use Rattle.texts.specs.Texts.{Texts, Fault, faultOf, namesOf, basesOf, jobOf}
+use Rattle.inputs.specs.Texts.{Texts, Fault, faultOf, namesOf, basesOf, jobOf}
 
 -- "A fault before the run gives one line: X, number, text [..], rows ahead"
 abbrev pub faultLine : Fault → List ℕ

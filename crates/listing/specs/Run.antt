@@ -1,7 +1,7 @@
 -- The bases of a listing, one behind the other: their lines, and whether the listing goes on.
 use mathlib.Core.List.{List}
 use Prim.Native.Nat.{ℕ}
-use Rattle.lists.specs.Build.{build}
+use Rattle.basics.specs.Build.{build}
 use Rattle.rules.specs.declared.Answer.{Answer}
 use Rattle.rules.specs.declared.Answer.the-variants as answer
 use Rattle.rules.specs.Job.{replies}
@@ -10,10 +10,10 @@ use Rattle.queue.specs.Ring.{Cells}
 use Rattle.admit.specs.Gates.{lengthsOf}
 use Rattle.lines.specs.declared.Laid.{Laid}
 use Rattle.lines.specs.declared.Laid.the-variants.{Whole, Part}
-use Rattle.sweep.specs.declared.Run.{Run}
-use Rattle.sweep.specs.View.{runOf}
-use Rattle.texts.specs.Texts.{room}
-use Rattle.texts.specs.Read.{baseIn}
+use Rattle.runs.specs.declared.Run.{Run}
+use Rattle.runs.specs.View.{runOf}
+use Rattle.inputs.specs.Texts.{room}
+use Rattle.inputs.specs.Read.{baseIn}
 use Rattle.listing.specs.Listing.{runLines}
 use Rattle.listing.specs.declared.Listing.{Listing}
 use Rattle.listing.specs.declared.Step.{Step}

@@ -1,19 +1,18 @@
 // The listing of texts: files to text, in one call for hosts.
+use inputs::Read;
+use inputs::Verdict;
 use lines::Laid;
 use lines::Put;
 use rules::Answer;
-use sweep::Run;
-use texts::Read;
-use texts::Verdict;
+use runs::Run;
 ghost use mathlib.Core.Path.{_≡_};
 ghost use lib.ListN.{length};
-ghost use Rattle.text.specs.Names.{names};
+ghost use Rattle.fields.specs.Names.{names};
 ghost use Rattle.heads.specs.View.{cols};
-ghost use Rattle.queue.specs.Ring.{cells};
 ghost use Rattle.lines.specs.Laid.{Lays};
-ghost use Rattle.texts.specs.Texts.{rowsMost, room};
-ghost use Rattle.texts.specs.Parted.{textsOf};
-ghost use Rattle.texts.specs.Read.{Rooms};
+ghost use Rattle.inputs.specs.Texts.{rowsMost, room};
+ghost use Rattle.inputs.specs.Parted.{textsOf};
+ghost use Rattle.inputs.specs.Read.{Rooms};
 ghost use Rattle.walk.specs.Run.{Comes, Bases, Fine};
 ghost use Rattle.listing.specs.Listing.{listing};
 ghost use Rattle.listing.specs.Run.{linesFrom, stepOf, toldOf};
@@ -60,20 +59,16 @@ fn list_bases(
     chrom: &[u64],
     start: &[u64],
     stop: &[u64],
-    qstream: &mut [u64],
-    qrow: &mut [u64],
-    qstart: &mut [u64],
-    qstop: &mut [u64],
-    streams: &mut [u64],
-    rows: &mut [u64],
+    queue: &mut [[u64; 4]],
+    answers: &mut [[u64; 2]],
     out: &mut [u8],
 ) -> Laid
     requires { ⌜ Bases (now list) (now from) (now to) (cols (now bchrom) (now bstart) (now bstop)) n
-        × Comes (cols (now chrom) (now start) (now stop)) (now lengths) run (cells (now qstream) (now qrow) (now qstart) (now qstop))
-        × (length (now streams) ≡ room) × (length (now rows) ≡ room) ⌝ }
+        × Comes (cols (now chrom) (now start) (now stop)) (now lengths) run (now queue)
+        × (length (now answers) ≡ room) ⌝ }
     ensures { λ r. ⌜ Lays (now (out .entry)) 0
         (linesFrom (names (now (list .entry)) (now (from .entry)) (now (to .entry))) (now (lengths .entry)) (cols (now (bchrom .entry)) (now (bstart .entry)) (now (bstop .entry)))
-        (cols (now (chrom .entry)) (now (start .entry)) (now (stop .entry))) n 0 run (cells (now (qstream .entry)) (now (qrow .entry)) (now (qstart .entry)) (now (qstop .entry))))
+        (cols (now (chrom .entry)) (now (start .entry)) (now (stop .entry))) n 0 run (now (queue .entry)))
         r (now (out .exit)) ⌝ }
 {
     let mut u = run;
@@ -93,12 +88,8 @@ fn list_bases(
             chrom,
             start,
             stop,
-            qstream,
-            qrow,
-            qstart,
-            qstop,
-            streams,
-            rows,
+            queue,
+            answers,
             out,
             at,
         );
@@ -139,12 +130,8 @@ fn list_run(
     let n = read.names;
     let count = read.bases;
     let run = walk::begin(read, list, from, to, chrom, start, stop);
-    let mut qstream = [0; 1024];
-    let mut qrow = [0; 1024];
-    let mut qstart = [0; 1024];
-    let mut qstop = [0; 1024];
-    let mut streams = [0; 1024];
-    let mut rows = [0; 1024];
+    let mut queue = [[0; 4]; 1024];
+    let mut answers = [[0; 2]; 1024];
     list_bases(
         run,
         count,
@@ -158,12 +145,8 @@ fn list_run(
         chrom,
         start,
         stop,
-        &mut qstream,
-        &mut qrow,
-        &mut qstart,
-        &mut qstop,
-        &mut streams,
-        &mut rows,
+        &mut queue,
+        &mut answers,
         out,
     )
 }
@@ -186,7 +169,7 @@ fn list_columns(
     requires { ⌜ Rooms (now from) (now to) (now len) (cols (now bchrom) (now bstart) (now bstop)) (cols (now chrom) (now start) (now stop)) ⌝ }
     ensures { λ r. ⌜ Lays (now (out .entry)) 0 (listing (textsOf (now (bytes .entry)) (now (ends .entry)))) r (now (out .exit)) ⌝ }
 {
-    let read = texts::read_texts(
+    let read = inputs::read_texts(
         bytes,
         ends,
         from,

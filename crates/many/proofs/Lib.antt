@@ -1,5 +1,4 @@
--- That each base of many is given as by the call for one.
-mod Parts
-mod OneMore
-mod Passing
-mod Beginning
+-- That bases given one after the other are each given as by the call for one base.
+pub mod Parts
+pub mod Passing
+pub mod Whole

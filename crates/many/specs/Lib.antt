@@ -1,2 +1,3 @@
--- Bases given one after the other in one call.
+-- What a call for many bases says, and what its parts promise one another.
 pub mod Many
+pub mod Inner

@@ -7,8 +7,8 @@ use Prim.Native.Nat.{ℕ, _<_}
 use native.Mathlib.Omega.{arith}
 use lib.Dec.{ltb, eqb}
 use borrow.Author.Tests.{eqb-true, ne-eqb}
-use Rattle.lists.specs.Lists.{keep, head?, first, All, nil, cons}
-use Rattle.lists.proofs.BoolLaws.{and-left}
+use Rattle.basics.specs.Lists.{keep, head?, first, All, nil, cons}
+use Rattle.basics.proofs.BoolLaws.{and-left}
 use Rattle.rules.specs.declared.Base.{Base}
 use Rattle.rules.specs.declared.Offer.the-variants as offers
 use Rattle.rules.specs.Rows.{Record}
@@ -18,7 +18,7 @@ use Rattle.rules.specs.Overlap.{live, awaited}
 use Rattle.rules.specs.Offer.{placeFor, offer}
 use Rattle.rules.specs.Call.{coming}
 use Rattle.theory.proofs.Modes.{overlap-laws}
-use Rattle.heads.specs.Least.{bestOf}
+use Rattle.least.specs.Least.{bestOf}
 use Rattle.queue.specs.Deeds.{frontOf}
 use Rattle.offers.specs.Offers.{startAt, targetBy, offerBy}
 

@@ -11,7 +11,7 @@ use Rattle.rules.specs.declared.Offer.{Offer}
 use Rattle.rules.specs.declared.Offer.the-variants.{Nothing, Upto}
 use Rattle.rules.specs.Overlap.{awaited}
 use Rattle.rules.specs.Offer.{placeFor}
-use Rattle.heads.specs.declared.Best.{Best}
+use Rattle.least.specs.declared.Best.{Best}
 use Rattle.heads.specs.Move.{bestRecord}
 use Rattle.queue.specs.declared.Front.{Front}
 use Rattle.queue.specs.declared.Front.the-variants as front

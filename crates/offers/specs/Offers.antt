@@ -6,7 +6,7 @@ use mathlib.Core.Option.{Option, none, some}
 use Prim.Native.Nat.{ℕ}
 use lib.Dec.{ltb, eqb}
 use lib.ListN.{length}
-use Rattle.lists.specs.Lists.{filter, head?}
+use Rattle.basics.specs.Lists.{filter, head?}
 use Rattle.rules.specs.declared.Base.{Base}
 use Rattle.rules.specs.declared.Chrom.{Chrom}
 use Rattle.rules.specs.declared.Offer.{Offer}
@@ -16,13 +16,13 @@ use Rattle.rules.specs.declared.Answer.the-variants as answer
 use Rattle.rules.specs.Rows.{Record}
 use Rattle.rules.specs.Overlap.{awaited, overlaps}
 use Rattle.rules.specs.Offer.{placeFor}
-use Rattle.heads.specs.declared.Best.{Best}
+use Rattle.least.specs.declared.Best.{Best}
 use Rattle.heads.specs.Move.{bestRecord}
 use Rattle.queue.specs.declared.Front.{Front}
 use Rattle.queue.specs.declared.Front.the-variants.{Nothing, At}
 use Rattle.queue.specs.declared.Ring.{Ring}
 use Rattle.queue.specs.Ring.{Cells, waiting}
-use Rattle.queue.specs.Deeds.{written, frontOf}
+use Rattle.queue.specs.Deeds.{written, answerRow, frontOf}
 
 -- a record of which chromosome and start are known: the place depends on no more
 abbrev pub startAt : Chrom → ℕ → Record
@@ -38,8 +38,7 @@ targetBy b Nothing h = cond (eqb (h .stream .0) 8) none (cond (awaited b (bestRe
 unfoldable pub offerBy : Base → Front → Best → Offer
 offerBy b f h = cond (ltb (b .start) (b .stop)) (placeFor b (targetBy b f h)) offers.Nothing
 
--- the answer to a base, and both answer columns after it: "exactly the records of its chromosome with start < base stop and stop > base start"
-pub record Reports (q : Ring) (c : Cells) (h : Best) (b : Base) (ss rs : List ℕ) (a : Answer) (ss′ rs′ : List ℕ) : Type 0 where
+-- the answer to a base, and the answer rows after it: "exactly the records of its chromosome with start < base stop and stop > base start"
+pub record Reports (q : Ring) (c : Cells) (h : Best) (b : Base) (l : List (List ℕ)) (a : Answer) (l′ : List (List ℕ)) : Type 0 where
   pub answer : a ≡ answer.Found (length (filter (overlaps b) (waiting q c))) (offerBy b (frontOf (head? (waiting q c))) h)
-  pub streams : ss′ ≡ written (λ x. x .stream .0) (filter (overlaps b) (waiting q c)) ss
-  pub rows : rs′ ≡ written (λ x. x .row) (filter (overlaps b) (waiting q c)) rs
+  pub answers : l′ ≡ written answerRow (filter (overlaps b) (waiting q c)) l

@@ -1,6 +1,6 @@
 // What a base gets: the records that overlap it, of those that wait, and the offered place. What waits first, or else the least head, says how far
 // bases may be left out.
-use heads::Best;
+use least::Best;
 use queue::Front;
 use queue::Ring;
 use rules::Answer;
@@ -13,7 +13,6 @@ ghost use mathlib.Core.Option.{some};
 ghost use Rattle.rules.specs.Overlap.{awaited};
 ghost use Rattle.rules.specs.Offer.{placeFor};
 ghost use Rattle.heads.specs.Move.{bestRecord};
-ghost use Rattle.queue.specs.Ring.{cells};
 ghost use Rattle.queue.specs.Deeds.{Scannable};
 ghost use Rattle.offers.specs.Offers.{startAt, offerBy, Reports};
 
@@ -52,7 +51,7 @@ fn is_awaited(b: Base, h: Best) -> bool
     if its.0 < mine.0 {
         return false;
     }
-    b.start < h.stop
+    measures::lasts(b.start, h.stop)
 }
 
 // The offer after a base: `first` is where the first that waits starts, and h is the least head.
@@ -79,23 +78,12 @@ fn offer_after(b: Base, first: Front, h: Best) -> Offer
 
 // The answer to a base for which no head is to be taken any more: its records are written, and a place is offered. q holds what waits, all of it
 // live for the base, and h is the least head.
-pub fn report(
-    q: Ring,
-    h: Best,
-    b: Base,
-    qstream: &[u64],
-    qrow: &[u64],
-    qstart: &[u64],
-    qstop: &[u64],
-    streams: &mut [u64],
-    rows: &mut [u64],
-) -> Answer
-    requires { ⌜ Scannable q (cells (now qstream) (now qrow) (now qstart) (now qstop)) b (now streams) (now rows) ⌝ }
-    ensures { λ a. ⌜ Reports q (cells (now (qstream .entry)) (now (qrow .entry)) (now (qstart .entry)) (now (qstop .entry))) h b
-        (now (streams .entry)) (now (rows .entry)) a (now (streams .exit)) (now (rows .exit)) ⌝ }
+pub fn report(q: Ring, h: Best, b: Base, queue: &[[u64; 4]], answers: &mut [[u64; 2]]) -> Answer
+    requires { ⌜ Scannable q (now queue) b (now answers) ⌝ }
+    ensures { λ a. ⌜ Reports q (now (queue .entry)) h b (now (answers .entry)) a (now (answers .exit)) ⌝ }
 {
-    let first = q.front(qstart);
+    let first = q.front(queue);
     let o = offer_after(b, first, h);
-    let n = q.scan(qstream, qrow, qstart, qstop, b, streams, rows);
+    let n = q.scan(queue, b, answers);
     Answer::Found(n, o)
 }

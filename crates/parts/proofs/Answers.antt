@@ -1,27 +1,30 @@
 -- From the answer of a call to its promise. Assumes nothing.
 use Prim.Native.Nat.{ℕ, _≤_}
-use mathlib.Core.Path.{_≡_, refl, sym, ap, _∙_}
+use mathlib.Core.Path.{_≡_, refl, sym, _∙_}
 use mathlib.Core.List.{List}
 use mathlib.Core.Bool.{Bool, true, false, _&&_}
 use native.Mathlib.Omega.{arith}
 use borrow.Author.Tests.{eqb-true, leb-true}
 use lib.Dec.{eqb, leb}
 use lib.ListN.{length}
-use Rattle.parts.specs.declared.Span.{Span}
-use Rattle.parts.specs.declared.Choice.{Choice}
+use Rattle.spans.specs.declared.Span.{Span}
+use Rattle.fragment_rules.specs.declared.Choice.{Choice}
 use Rattle.parts.specs.declared.Lens.{Lens}
-use Rattle.parts.specs.declared.Rule.{Rule}
-use Rattle.parts.specs.declared.Refusal.{Refusal}
-use Rattle.parts.specs.declared.Refusal.the-variants.{Sizes, Backwards, Records, Room}
-use Rattle.parts.specs.declared.Answer.{Answer}
-use Rattle.parts.specs.declared.Answer.the-variants.{Written, Refused}
-use Rattle.parts.specs.Spans.{spans}
-use Rattle.parts.specs.Rules.{ruleOf}
-use Rattle.parts.specs.Fragments.{fragments}
-use Rattle.parts.specs.Layout.{Columns, layout, holding, readBack, Ready}
-use Rattle.parts.specs.Valid.{sizedOf, unless, judged, allFitting}
+use Rattle.fragment_rules.specs.declared.Rule.{Rule}
+use Rattle.layouts.specs.declared.Refusal.{Refusal}
+use Rattle.layouts.specs.declared.Refusal.the-variants.{Backwards, Records, Room}
+use Rattle.layouts.specs.declared.Answer.{Answer}
+use Rattle.layouts.specs.declared.Answer.the-variants.{Written, Refused}
+use Rattle.spans.specs.Spans.{spans}
+use Rattle.fragment_rules.specs.Rules.{ruleOf}
+use Rattle.layouts.specs.Fragments.{fragments}
+use Rattle.layouts.specs.Columns.{Columns, holding}
+use Rattle.layouts.specs.Layout.{layout}
+use Rattle.fragment_columns.specs.Ready.{Ready}
+use Rattle.parts.specs.Valid.{sizedOf}
+use Rattle.layouts.specs.Judged.{unless, judged, allFitting}
 use Rattle.parts.specs.Promise.{lensOf, answered, Parted}
-use Rattle.parts.proofs.Reading.{reads-back}
+use Rattle.layouts.proofs.Reading.{reads-back}
 
 and-true : (s t : Bool) → s && t ≡ true → (s ≡ true) × (t ≡ true)
 and-true true t e = (refl, e)

@@ -1,10 +1,3 @@
--- The laws that the proofs of the functions cite.
+-- The laws that the proofs of the functions cite, and what follows of the promise.
 pub mod Answers
-pub mod Bases
-pub mod Columns
-pub mod Entries
 pub mod Most
-pub mod Reading
-pub mod Rows
-pub mod Table
-pub mod Writing

@@ -1,7 +1,7 @@
 -- The counts of `specs.Most` are enough, and the promise leaves one result. Assumes nothing.
-use Prim.Native.Nat.{ℕ, suc, _+_, _*_, _≤_, min, max}
-use mathlib.Core.Path.{_≡_, refl, sym, ap, _∙_}
-use mathlib.Core.List.{List, [], _∷_, _++_, map, flatMap}
+use Prim.Native.Nat.{ℕ, _+_, _*_, _≤_, min, max}
+use mathlib.Core.Path.{_≡_, sym, ap, _∙_}
+use mathlib.Core.List.{List, [], _∷_, flatMap}
 use mathlib.Core.Bool.{Bool, true, false, _&&_}
 use mathlib.Core.Option.{Option, some}
 use native.Mathlib.Omega.{arith}
@@ -9,21 +9,24 @@ use native.Mathlib.Nat.{suc-mul}
 use borrow.Author.Tests.{le-leb}
 use lib.Dec.{ltb, leb}
 use lib.ListN.{length, length-append, length-map}
-use Rattle.parts.specs.declared.Span.{Span}
-use Rattle.parts.specs.declared.Choice.{Choice}
-use Rattle.parts.specs.declared.Choice.the-variants.{None, Whole, WholeWide, Piece, Inverse}
-use Rattle.parts.specs.declared.Refusal.{Refusal}
-use Rattle.parts.specs.declared.Refusal.the-variants.{Room, Backwards, Records}
-use Rattle.parts.specs.declared.Answer.{Answer}
-use Rattle.parts.specs.declared.Answer.the-variants.{Written, Refused}
-use Rattle.parts.specs.Spans.{stretch, onlyIf, span, clipped}
-use Rattle.parts.specs.Fragments.{before, after, pieces, allPieces, walk, gapEnd, nextPlace, gaps, fragment, fragments, whole}
-use Rattle.parts.specs.Rules.{ruleOf, bases, given, givingOf, allGiven}
-use Rattle.parts.specs.Layout.{Columns, layout, ifAny}
-use Rattle.parts.specs.Valid.{judged, unless, allFitting}
-use Rattle.parts.specs.Promise.{Parted, answered}
+use Rattle.spans.specs.declared.Span.{Span}
+use Rattle.fragment_rules.specs.declared.Choice.{Choice}
+use Rattle.fragment_rules.specs.declared.Choice.the-variants.{None, Whole, WholeWide, Piece, Inverse}
+use Rattle.layouts.specs.declared.Refusal.{Refusal}
+use Rattle.layouts.specs.declared.Refusal.the-variants.{Room, Backwards, Records}
+use Rattle.layouts.specs.declared.Answer.{Answer}
+use Rattle.layouts.specs.declared.Answer.the-variants.{Written, Refused}
+use Rattle.spans.specs.Spans.{stretch, onlyIf, span, clipped, before, after}
+use Rattle.layouts.specs.Fragments.{pieces, allPieces, walk, gaps, fragment, fragments, whole}
+use Rattle.spans.specs.Turn.{gapEnd, nextPlace}
+use Rattle.fragment_rules.specs.Rules.{ruleOf, givingOf}
+use Rattle.layouts.specs.Given.{bases, allGiven}
+use Rattle.layouts.specs.Columns.{Columns}
+use Rattle.layouts.specs.Layout.{layout, ifAny}
+use Rattle.layouts.specs.Judged.{judged, unless, allFitting}
+use Rattle.parts.specs.Promise.{Parted}
 use Rattle.parts.specs.Most.{mostFragments, mostPieces}
-use Rattle.parts.proofs.Reading.{given-is, fragments-count}
+use Rattle.layouts.proofs.Reading.{given-is, fragments-count}
 
 -- a stretch is one span at most
 short : (a e : ℕ) → length (stretch a e) ≤ 1

@@ -1,9 +1,4 @@
--- What the parts promise: spans, fragments, the rule of a pair, columns, refusals, and the promise of the public call.
-pub mod Spans
-pub mod Fragments
-pub mod Rules
-pub mod Writing
-pub mod Layout
+-- What the parts promise: the refusals and their numbers, the promise of the public call, and how much to lend.
 pub mod Valid
 pub mod Promise
 pub mod Most

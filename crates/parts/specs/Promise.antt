@@ -3,17 +3,19 @@ use Prim.Native.Nat.{ℕ}
 use mathlib.Core.Path.{_≡_}
 use mathlib.Core.List.{List}
 use lib.ListN.{length}
-use Rattle.parts.specs.declared.Span.{Span}
-use Rattle.parts.specs.declared.Choice.{Choice}
+use Rattle.spans.specs.declared.Span.{Span}
+use Rattle.fragment_rules.specs.declared.Choice.{Choice}
 use Rattle.parts.specs.declared.Lens.{Lens}
-use Rattle.parts.specs.declared.Refusal.the-variants.{Sizes}
-use Rattle.parts.specs.declared.Answer.{Answer}
-use Rattle.parts.specs.declared.Answer.the-variants.{Written, Refused}
-use Rattle.parts.specs.Spans.{spans}
-use Rattle.parts.specs.Fragments.{fragments}
-use Rattle.parts.specs.Rules.{ruleOf}
-use Rattle.parts.specs.Layout.{Layout, Columns, layout, holding, readBack}
-use Rattle.parts.specs.Valid.{sizedOf, unless, judged}
+use Rattle.layouts.specs.declared.Refusal.the-variants.{Sizes}
+use Rattle.layouts.specs.declared.Answer.{Answer}
+use Rattle.layouts.specs.declared.Answer.the-variants.{Written, Refused}
+use Rattle.spans.specs.Spans.{spans}
+use Rattle.layouts.specs.Fragments.{fragments}
+use Rattle.fragment_rules.specs.Rules.{ruleOf}
+use Rattle.layouts.specs.Layout.{Layout, layout}
+use Rattle.layouts.specs.Columns.{Columns, holding, readBack}
+use Rattle.parts.specs.Valid.{sizedOf}
+use Rattle.layouts.specs.Judged.{unless, judged}
 
 -- the lengths of the columns that are lent
 abbrev pub lensOf : List ℕ → List ℕ → Columns → Lens

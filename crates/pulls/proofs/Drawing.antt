@@ -7,8 +7,8 @@ use native.Mathlib.Omega.{arith}
 use lib.Dec.{leb, ltb}
 use lib.ListN.{length}
 use borrow.Author.Tests.{le-leb, lt-leb, le-ltb}
-use Rattle.lists.specs.Lists.{total, filter, keep, head?, All, nil, cons}
-use Rattle.lists.proofs.ListLaws.{all-append, length-filter}
+use Rattle.basics.specs.Lists.{total, filter, keep, head?, All, nil, cons}
+use Rattle.basics.proofs.ListLaws.{all-append, length-filter}
 use Rattle.rules.specs.declared.Base.{Base}
 use Rattle.rules.specs.declared.Chrom.{Chrom}
 use Rattle.rules.specs.declared.End.{End}
@@ -25,24 +25,22 @@ use Rattle.rules.specs.Pull.{Pull, paused, ends, pull}
 use Rattle.rules.specs.Offer.{offer}
 use Rattle.rules.specs.Call.{Reply, found, refused, ended, coming, afterPull, end}
 use Rattle.rules.specs.Call as rules
-use Rattle.heads.specs.declared.Heads.{Heads}
-use Rattle.heads.specs.declared.Best.{Best}
+use Rattle.least.specs.declared.Best.{Best}
 use Rattle.heads.specs.declared.Taken.{Taken}
-use Rattle.heads.specs.declared.Next.{Next}
 use Rattle.heads.specs.declared.Move.{Move}
 use Rattle.heads.specs.declared.Move.the-variants as move
-use Rattle.heads.specs.View.{Cols, restsOf}
-use Rattle.heads.specs.Least.{bestOf}
-use Rattle.heads.specs.Move.{moved, endsAt, goesAt, takenRecord}
+use Rattle.heads.specs.View.{Cols, Heads, restsOf}
+use Rattle.least.specs.Least.{bestOf}
+use Rattle.heads.specs.Move.{turnOf, moved, takenRecord}
 use Rattle.heads.proofs.RestLaws.{onMove, queued, pull-move}
-use Rattle.heads.proofs.TurnLaws.{Turning, Takes, turn-here, ends-takes, goes-takes, stays-best, least-below}
+use Rattle.heads.proofs.TurnLaws.{Turning, Takes, turn-here, stays-best, least-below}
 use Rattle.queue.specs.declared.Ring.{Ring}
 use Rattle.queue.specs.Ring.{Cells, Fair, recordOf, waiting}
 use Rattle.queue.specs.Deeds.{Scannable, frontOf}
 use Rattle.queue.proofs.Waiting.{length-waiting}
 use Rattle.offers.specs.Offers.{offerBy, Reports}
 use Rattle.offers.proofs.OfferLaws.{offer-by}
-use Rattle.pulls.specs.Pulls.{turnOf, afterTurns, drawnTo, Kept, Lent, lent, Drawable, slotOf, KeptAs, FullAs, DrawsAs}
+use Rattle.pulls.specs.Pulls.{afterTurns, drawnTo, Kept, Lent, lent, Drawable, slotOf, KeptAs, FullAs, DrawsAs}
 
 -- ---- the heads
 
@@ -59,11 +57,8 @@ turns-next s n b h g e f = ap (λ (k : ℕ). afterTurns s n b k h) f ∙ ap (aft
 
 -- ---- the queue
 
-pub kept-trans : {a c d : Cells} → Kept a c → Kept c d → Kept a d
-kept-trans h k = record { stream = k .stream ∙ h .stream; row = k .row ∙ h .row; start = k .start ∙ h .start; stop = k .stop ∙ h .stop }
-
 pub fair-kept : {q w : Ring} {c d : Cells} → Fair q c → Fair w d → w .room ≡ q .room → Kept c d
-fair-kept f g e = record { stream = g .streams ∙ e ∙ sym (f .streams); row = g .rows ∙ e ∙ sym (f .rows); start = g .starts ∙ e ∙ sym (f .starts); stop = g .stops ∙ e ∙ sym (f .stops) }
+fair-kept f g e = g .slots ∙ e ∙ sym (f .slots)
 
 -- ---- the loop
 
@@ -91,7 +86,7 @@ module _ (s : Cols) (n : ℕ) (h : Heads) (b : Base) (q : Ring) (l : Lent) where
     chrom = d .chrom;
     cleared = d .cleared;
     room = refl;
-    kept = record { stream = refl; row = refl; start = refl; stop = refl };
+    kept = refl;
     pulls = refl;
     draws = refl;
   }
@@ -139,7 +134,7 @@ module _ (s : Cols) (n : ℕ) (h : Heads) (b : Base) (q : Ring) (l : Lent) where
       chrom = p .chrom ∙ d .chrom;
       cleared = still-live t w′ c′ p (k .lively);
       room = p .room ∙ d .room;
-      kept = kept-trans (d .kept) (fair-kept (d .fair) (p .fair) (p .room));
+      kept = fair-kept (d .fair) (p .fair) (p .room) ∙ d .kept;
       pulls = sym (queued-kept t w′ c′ p (restsOf s g)) ∙ sym on ∙ sym (on-move m e) ∙ d .pulls;
       draws = sym (turns-next s n b u g (ap (moved u) (sym e) ∙ to-g) (k .less)) ∙ d .draws;
     }
@@ -147,26 +142,25 @@ module _ (s : Cols) (n : ℕ) (h : Heads) (b : Base) (q : Ring) (l : Lent) where
     -- ---- the ways out
 
     -- the run ends by e
-    pub ends-so : (e : End) (c′ : Cells) (ss : List ℕ) (rs : List ℕ) → Kept (l .cells) c′ → from h (waiting q (l .cells)) ≡ ends e
-        → ss ≡ l .streams → rs ≡ l .rows → DrawsAs s n h b q l (record { ring = w; answer = answer.Ended e }) u (lent c′ ss rs)
-    ends-so e c′ ss rs k is sss rss = rw (is, sss, rss) (record { answer = refl; found = λ z. absurd z; kept = k; streams = refl; rows = refl })
+    pub ends-so : {u′ : Heads} (e : End) (c′ : Cells) (r : List (List ℕ)) → Kept (l .cells) c′ → from h (waiting q (l .cells)) ≡ ends e
+        → r ≡ l .answers → DrawsAs s n h b q l (record { ring = w; answer = answer.Ended e }) u′ (lent c′ r)
+    ends-so e c′ r k is same = rw (is, same) (record { answer = refl; found = λ z. absurd z; kept = k; answers = refl })
 
     -- no head is to be taken: the base is answered
-    pub stays-so : Drawable s h b q l → (m : Move) → m ≡ here → (x : Best) → m ≡ move.Stay x → (a : Answer) (ss rs : List ℕ) → Reports w c x b (l .streams) (l .rows) a ss rs
-        → DrawsAs s n h b q l (record { ring = w; answer = a }) u (lent c ss rs)
-    stays-so z m e x i a ss rs k = rw is-paused (rw few (record {
+    pub stays-so : Drawable s h b q l → (m : Move) → m ≡ here → (x : Best) → m ≡ move.Stay x → (a : Answer) (r : List (List ℕ)) → Reports w c x b (l .answers) a r
+        → DrawsAs s n h b q l (record { ring = w; answer = a }) u (lent c r)
+    stays-so z m e x i a r k = rw is-paused (rw few (record {
       answer = k .answer ∙ rw place;
       found = λ y. record { shaped = d .turning .shaped; heads = sym last-heads; run = refl; fair = d .fair; room = d .room };
       kept = d .kept;
-      streams = k .streams;
-      rows = k .rows;
+      answers = k .answers;
     }))
       where
         is-paused : from h (waiting q (l .cells)) ≡ paused (restsOf s u) (waiting w c)
         is-paused = sym (d .pulls) ∙ on-move m e ∙ ap (onMove s u n b NoRoom (q .room) (waiting w c)) i
 
-        few : ltb (length (l .rows)) (length (filter (overlaps b) (waiting w c))) ≡ false
-        few = le-ltb (length (l .rows)) (length (filter (overlaps b) (waiting w c))) (omega (arith, length-filter (overlaps b) (waiting w c), length-waiting w c, d .fair .sound .fits, d .room, z .rows))
+        few : ltb (length (l .answers)) (length (filter (overlaps b) (waiting w c))) ≡ false
+        few = le-ltb (length (l .answers)) (length (filter (overlaps b) (waiting w c))) (omega (arith, length-filter (overlaps b) (waiting w c), length-waiting w c, d .fair .sound .fits, d .room, z .answers))
 
         place : offerBy b (frontOf (head? (waiting w c))) x ≡ offer (coming (restsOf s u) (waiting w c)) b
         place = ap (offerBy b (frontOf (head? (waiting w c)))) (stays-best s u (d .turning) n b m e x i)

@@ -4,8 +4,8 @@ use mathlib.Core.Bool.{Bool, true, false}
 use mathlib.Core.List.{List, [], _∷_, _++_, append-nil}
 use Prim.Native.Nat.{ℕ}
 use native.Mathlib.Omega.{arith}
-use Rattle.lists.specs.Lists.{keep}
-use Rattle.lists.proofs.BoolLaws.{clash}
+use Rattle.basics.specs.Lists.{keep}
+use Rattle.basics.proofs.BoolLaws.{clash}
 use Rattle.rules.specs.Rows.{Record}
 use Rattle.heads.specs.declared.Taken.{Taken}
 use Rattle.queue.specs.declared.Ring.{Ring}

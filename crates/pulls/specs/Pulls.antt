@@ -1,38 +1,32 @@
--- What an accepted base comes to: the heads after its pull, what waits then, the answer, and every column that was lent.
+-- What an accepted base comes to: the heads after its pull, what waits then, the answer, and all that was lent.
 use mathlib.Core.Path.{_≡_}
 use mathlib.Core.Bool.{Bool, true}
 use mathlib.Core.List.{List, [], _++_}
 use Prim.Native.Nat.{ℕ, zero, suc, _≤_, _<_}
 use lib.ListN.{length}
-use Rattle.lists.specs.Lists.{total, keep, All}
+use Rattle.basics.specs.Lists.{total, keep, All}
 use Rattle.rules.specs.declared.Base.{Base}
 use Rattle.rules.specs.declared.End.{End}
 use Rattle.rules.specs.declared.End.the-variants.{NoRoom}
 use Rattle.rules.specs.declared.Stage.the-variants.{After}
 use Rattle.rules.specs.Rows.{Record}
-use Rattle.rules.specs.Merge.{pick}
 use Rattle.rules.specs.Streams.{ahead, next}
 use Rattle.rules.specs.Overlap.{taken, live}
 use Rattle.rules.specs.Pull.{Pull, pull}
 use Rattle.rules.specs.Call.{Reply, found, refused, ended, answerOf, column, afterPull, pulling}
 use Rattle.rules.specs.Call as rules
-use Rattle.heads.specs.declared.Heads.{Heads}
-use Rattle.heads.specs.declared.Move.{Move}
 use Rattle.heads.specs.declared.Taken.{Taken}
-use Rattle.heads.specs.View.{Cols, restsOf}
-use Rattle.heads.specs.Move.{moveOf, moved, Placed, Shaped}
+use Rattle.heads.specs.View.{Cols, Heads, restsOf}
+use Rattle.heads.specs.Move.{turnOf, moved, Placed, Shaped}
 use Rattle.queue.specs.declared.Ring.{Ring}
 use Rattle.queue.specs.declared.Slot.{Slot}
 use Rattle.queue.specs.declared.Pushed.{Pushed}
 use Rattle.queue.specs.declared.Pushed.the-variants.{Done, Full}
 use Rattle.queue.specs.Ring.{Cells, Fair, recordOf, waiting}
+use Rattle.queue.specs.Deeds.{answerRow}
 use Rattle.pulls.specs.declared.Answered.{Answered}
 
 -- ---- the heads
-
--- the next turn of a pull at b, of n chromosomes
-abbrev pub turnOf : Cols → ℕ → Base → Heads → Move
-turnOf s n b h = moveOf n b (h .next) (pick ahead (restsOf s h))
 
 -- the heads after k turns; where no head is to be taken a turn changes nothing
 unfoldable pub afterTurns : Cols → ℕ → Base → ℕ → Heads → Heads
@@ -45,21 +39,17 @@ drawnTo s n b h = afterTurns s n b (total (restsOf s h)) h
 
 -- ---- what is lent
 
--- the columns of a queue keep their lengths
-pub record Kept (c c′ : Cells) : Type 0 where
-  pub stream : length (c′ .stream) ≡ length (c .stream)
-  pub row : length (c′ .row) ≡ length (c .row)
-  pub start : length (c′ .start) ≡ length (c .start)
-  pub stop : length (c′ .stop) ≡ length (c .stop)
+-- the memory of a queue keeps its length
+abbrev pub Kept : Cells → Cells → Type 0
+Kept c c′ = length c′ ≡ length c
 
--- the queue's memory and the two answer columns
+-- the queue's memory and the answer rows
 pub record Lent : Type 0 where
   pub cells : Cells
-  pub streams : List ℕ
-  pub rows : List ℕ
+  pub answers : List (List ℕ)
 
-abbrev pub lent : Cells → List ℕ → List ℕ → Lent
-lent c ss rs = record { cells = c; streams = ss; rows = rs }
+abbrev pub lent : Cells → List (List ℕ) → Lent
+lent c l = record { cells = c; answers = l }
 
 -- a base that was answered
 abbrev pub Found : Reply → Type 0
@@ -68,10 +58,6 @@ Found (refused x) = ⊥
 Found (ended e) = ⊥
 
 -- ---- one pull
-
--- heads that lie in eight arrays, and the streams' ranges beside them
-abbrev pub headsIn : List ℕ → List ℕ → List ℕ → List ℕ → List Bool → List ℕ → List ℕ → List ℕ → ℕ → Heads
-headsIn c a e row ends next from to n = record { chrom = c; start = a; stop = e; row = row; ended = ends; next = next; from = from; to = to; streams = n }
 
 -- what a run comes to by the rules whose loaded heads are h and whose queue is q: a base that it accepts is `b`
 abbrev pub standsAt : Cols → Heads → Ring → Cells → Base → rules.Run
@@ -91,8 +77,7 @@ pub record SettlesIn (s : Cols) (n : ℕ) (b : Base) (h : Heads) (m : ℕ) (t : 
   pub answer : a .answer ≡ answerOf (t .reply)
   pub found : Found (t .reply) → FoundIn s n b h m t (a .ring) h′ (l′ .cells)
   pub kept : Kept (l .cells) (l′ .cells)
-  pub streams : l′ .streams ≡ column (λ a. a .stream .0) (t .reply) (l .streams)
-  pub rows : l′ .rows ≡ column (λ a. a .row) (t .reply) (l .rows)
+  pub answers : l′ .answers ≡ column answerRow (t .reply) (l .answers)
 
 -- the pull at b from the heads h and the ring q, of n chromosomes
 abbrev pub pullOf : Cols → ℕ → Heads → Base → Ring → Cells → Pull Record End
@@ -105,8 +90,7 @@ pub record Drawable (s : Cols) (h : Heads) (b : Base) (q : Ring) (l : Lent) : Ty
   pub fair : Fair q (l .cells)
   pub chrom : q .chrom ≡ b .chrom
   pub cleared : All (λ a. live b a ≡ true) (waiting q (l .cells))
-  pub streams : q .room ≤ length (l .streams)
-  pub rows : q .room ≤ length (l .rows)
+  pub answers : q .room ≤ length (l .answers)
 
 -- a record that was taken, as a slot
 abbrev pub slotOf : Taken → Slot
@@ -120,7 +104,7 @@ pub record KeptAs (q : Ring) (c : Cells) (t : Taken) (w : Ring) (c′ : Cells) :
   pub fewer : t .live ≡ true → length (waiting q c) < q .room
   pub more : waiting w c′ ≡ waiting q c ++ keep (t .live) (recordOf (q .chrom) (slotOf t)) []
 
--- "9 if Q live records are queued already": the columns are as they were
+-- "9 if Q live records are queued already": the slots are as they were
 pub record FullAs (q : Ring) (c : Cells) (t : Taken) (c′ : Cells) : Type 0 where
   pub lives : t .live ≡ true
   pub full : length (waiting q c) ≡ q .room
@@ -133,7 +117,7 @@ pub record Keeps (q : Ring) (c : Cells) (t : Taken) (p : Pushed) (c′ : Cells) 
 
 -- what a pull comes to
 abbrev pub DrawsAs : Cols → ℕ → Heads → Base → Ring → Lent → Answered → Heads → Lent → Type 0
-DrawsAs s n h b q l a h′ l′ = SettlesIn s n b h (q .room) (afterPull (length (l .rows)) (standsAt s h q (l .cells) b) b (pullOf s n h b q (l .cells))) l a h′ l′
+DrawsAs s n h b q l a h′ l′ = SettlesIn s n b h (q .room) (afterPull (length (l .answers)) (standsAt s h q (l .cells) b) b (pullOf s n h b q (l .cells))) l a h′ l′
 
 -- ---- an accepted base
 
@@ -142,9 +126,8 @@ pub record Settleable (s : Cols) (h : Heads) (q : Ring) (l : Lent) : Type 0 wher
   pub shaped : Shaped h
   pub placed : Placed s (h .streams) (h .next) (h .from) (h .to)
   pub fair : Fair q (l .cells)
-  pub streams : q .room ≤ length (l .streams)
-  pub rows : q .room ≤ length (l .rows)
+  pub answers : q .room ≤ length (l .answers)
 
 -- what it comes to
 abbrev pub SettlesAs : Cols → ℕ → Heads → Base → Ring → Lent → Answered → Heads → Lent → Type 0
-SettlesAs s n h b q l a h′ l′ = SettlesIn s n b h (q .room) (pulling n (q .room) (length (l .rows)) (standsAt s h q (l .cells) b) b) l a h′ l′
+SettlesAs s n h b q l a h′ l′ = SettlesIn s n b h (q .room) (pulling n (q .room) (length (l .answers)) (standsAt s h q (l .cells) b) b) l a h′ l′

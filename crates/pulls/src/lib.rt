@@ -1,4 +1,4 @@
-// An accepted base: heads are taken, what is live is queued, and the base is answered. The heads lie in arrays and go on in place.
+// An accepted base: heads are taken, what is live is queued, and the base is answered. The heads lie in one array of fours and go on in place.
 use heads::Move;
 use heads::Taken;
 use queue::Pushed;
@@ -7,10 +7,11 @@ use queue::Slot;
 use rules::Answer;
 use rules::Base;
 use rules::End;
+use rules::Settings;
 ghost use mathlib.Core.Path.{_≡_};
-ghost use Rattle.heads.specs.View.{cols};
-ghost use Rattle.queue.specs.Ring.{cells, Fair};
-ghost use Rattle.pulls.specs.Pulls.{lent, headsIn, Keeps, Drawable, DrawsAs, Settleable, SettlesAs};
+ghost use Rattle.heads.specs.View.{cols, headsBy};
+ghost use Rattle.queue.specs.Ring.{Fair};
+ghost use Rattle.pulls.specs.Pulls.{lent, Keeps, Drawable, DrawsAs, Settleable, SettlesAs};
 
 // What a base gets that was accepted, and the queue after it.
 pub struct Answered {
@@ -18,25 +19,10 @@ pub struct Answered {
     pub answer: Answer,
 }
 
-// A number as a place.
-fn place_in(x: u64) -> usize
-    ensures { λ r. ⌜ r ≡ x ⌝ }
-{
-    x as usize
-}
-
 // A record that was taken is queued where it is live.
-fn keep(
-    q: Ring,
-    t: Taken,
-    qstream: &mut [u64],
-    qrow: &mut [u64],
-    qstart: &mut [u64],
-    qstop: &mut [u64],
-) -> Pushed
-    requires { ⌜ Fair q (cells (now qstream) (now qrow) (now qstart) (now qstop)) ⌝ }
-    ensures { λ p. ⌜ Keeps q (cells (now (qstream .entry)) (now (qrow .entry)) (now (qstart .entry)) (now (qstop .entry))) t p
-        (cells (now (qstream .exit)) (now (qrow .exit)) (now (qstart .exit)) (now (qstop .exit))) ⌝ }
+fn keep(q: Ring, t: Taken, queue: &mut [[u64; 4]]) -> Pushed
+    requires { ⌜ Fair q (now queue) ⌝ }
+    ensures { λ p. ⌜ Keeps q (now (queue .entry)) t p (now (queue .exit)) ⌝ }
 {
     if !t.live {
         return Pushed::Done(q);
@@ -48,52 +34,41 @@ fn keep(
         start: t.start,
         stop: t.stop,
     };
-    q.push(qstream, qrow, qstart, qstop, slot)
+    q.push(queue, slot)
 }
 
-// Heads are taken while they lie ahead of the base's stop, and what is live is queued; then the base is answered. The heads, which lie in
-// arrays, go on in place; n is the number of chromosomes.
+// Heads are taken while they lie ahead of the base's stop, and what is live is queued; then the base is answered. The heads, the streams' marks
+// and their next rows go on in place.
 fn draw<'a>(
-    hchrom: &mut [u64; 8],
-    hstart: &mut [u64; 8],
-    hstop: &mut [u64; 8],
-    hrow: &mut [u64; 8],
-    ended: &mut [bool; 8],
+    fours: &mut [[u64; 4]; 8],
+    ended: &mut [u64; 8],
     next: &mut [usize; 8],
     from: &'a [usize; 8],
     to: &'a [usize; 8],
-    among: usize,
-    n: u64,
+    fixed: Settings,
     ring: Ring,
     b: Base,
     chrom: &[u64],
     start: &[u64],
     stop: &[u64],
-    qstream: &mut [u64],
-    qrow: &mut [u64],
-    qstart: &mut [u64],
-    qstop: &mut [u64],
-    streams: &mut [u64],
-    rows: &mut [u64],
+    queue: &mut [[u64; 4]],
+    answers: &mut [[u64; 2]],
 ) -> Answered
-    requires { ⌜ Drawable (cols (now chrom) (now start) (now stop))
-        (headsIn (now hchrom) (now hstart) (now hstop) (now hrow) (now ended) (now next) (now from) (now to) among) b ring
-        (lent (cells (now qstream) (now qrow) (now qstart) (now qstop)) (now streams) (now rows)) ⌝ }
-    ensures { λ a. ⌜ DrawsAs (cols (now (chrom .entry)) (now (start .entry)) (now (stop .entry))) n
-        (headsIn (now (hchrom .entry)) (now (hstart .entry)) (now (hstop .entry)) (now (hrow .entry)) (now (ended .entry)) (now (next .entry)) (now (from .entry)) (now (to .entry)) among) b ring
-        (lent (cells (now (qstream .entry)) (now (qrow .entry)) (now (qstart .entry)) (now (qstop .entry))) (now (streams .entry)) (now (rows .entry))) a
-        (headsIn (now (hchrom .exit)) (now (hstart .exit)) (now (hstop .exit)) (now (hrow .exit)) (now (ended .exit)) (now (next .exit)) (now (from .entry)) (now (to .entry)) among)
-        (lent (cells (now (qstream .exit)) (now (qrow .exit)) (now (qstart .exit)) (now (qstop .exit))) (now (streams .exit)) (now (rows .exit))) ⌝ }
+    requires { ⌜ Drawable (cols (now chrom) (now start) (now stop)) (headsBy (now fours) (now ended) (now next) (now from) (now to) (fixed .streams)) b ring
+        (lent (now queue) (now answers)) ⌝ }
+    ensures { λ a. ⌜ DrawsAs (cols (now (chrom .entry)) (now (start .entry)) (now (stop .entry))) (fixed .chroms)
+        (headsBy (now (fours .entry)) (now (ended .entry)) (now (next .entry)) (now (from .entry)) (now (to .entry)) (fixed .streams)) b ring
+        (lent (now (queue .entry)) (now (answers .entry))) a
+        (headsBy (now (fours .exit)) (now (ended .exit)) (now (next .exit)) (now (from .entry)) (now (to .entry)) (fixed .streams))
+        (lent (now (queue .exit)) (now (answers .exit))) ⌝ }
 {
+    let n = measures::number(fixed.chroms);
     let mut q = ring;
     loop {
         let m = heads::decide(
-            hchrom,
-            hstart,
-            hstop,
-            hrow,
+            fours,
             ended,
-            among,
+            fixed.streams,
             next,
             from,
             to,
@@ -105,7 +80,7 @@ fn draw<'a>(
         );
         match m {
             Move::Stay(h) => {
-                let answer = offers::report(q, h, b, qstream, qrow, qstart, qstop, streams, rows);
+                let answer = offers::report(q, h, b, queue, answers);
                 return Answered {
                     ring: q,
                     answer: answer,
@@ -117,8 +92,11 @@ fn draw<'a>(
                     answer: Answer::Ended(x),
                 };
             }
-            Move::Ends(t) => {
-                let p = keep(q, t, qstream, qrow, qstart, qstop);
+            Move::Takes(t, a) => {
+                let s = t.stream;
+                let k = measures::place_in(s.0);
+                heads::go_on(fours, ended, next, k, a);
+                let p = keep(q, t, queue);
                 let Pushed::Done(w) = p else {
                     return Answered {
                         ring: q,
@@ -126,27 +104,6 @@ fn draw<'a>(
                     };
                 };
                 q = w;
-                let s = t.stream;
-                let k = place_in(s.0);
-                ended[k] = true;
-            }
-            Move::Goes(t, x) => {
-                let p = keep(q, t, qstream, qrow, qstart, qstop);
-                let Pushed::Done(w) = p else {
-                    return Answered {
-                        ring: q,
-                        answer: Answer::Ended(End::NoRoom),
-                    };
-                };
-                q = w;
-                let s = t.stream;
-                let k = place_in(s.0);
-                let d = x.chrom;
-                hchrom[k] = d.0;
-                hstart[k] = x.start;
-                hstop[k] = x.stop;
-                hrow[k] = x.row;
-                next[k] = x.next;
             }
         }
     }
@@ -154,59 +111,42 @@ fn draw<'a>(
 
 // An accepted base: what is not live is cleared, and the pull begins. The heads go on in place, as with `draw`.
 pub fn settle<'a>(
-    hchrom: &mut [u64; 8],
-    hstart: &mut [u64; 8],
-    hstop: &mut [u64; 8],
-    hrow: &mut [u64; 8],
-    ended: &mut [bool; 8],
+    fours: &mut [[u64; 4]; 8],
+    ended: &mut [u64; 8],
     next: &mut [usize; 8],
     from: &'a [usize; 8],
     to: &'a [usize; 8],
-    among: usize,
-    n: u64,
+    fixed: Settings,
     ring: Ring,
     b: Base,
     chrom: &[u64],
     start: &[u64],
     stop: &[u64],
-    qstream: &mut [u64],
-    qrow: &mut [u64],
-    qstart: &mut [u64],
-    qstop: &mut [u64],
-    streams: &mut [u64],
-    rows: &mut [u64],
+    queue: &mut [[u64; 4]],
+    answers: &mut [[u64; 2]],
 ) -> Answered
-    requires { ⌜ Settleable (cols (now chrom) (now start) (now stop))
-        (headsIn (now hchrom) (now hstart) (now hstop) (now hrow) (now ended) (now next) (now from) (now to) among) ring
-        (lent (cells (now qstream) (now qrow) (now qstart) (now qstop)) (now streams) (now rows)) ⌝ }
-    ensures { λ a. ⌜ SettlesAs (cols (now (chrom .entry)) (now (start .entry)) (now (stop .entry))) n
-        (headsIn (now (hchrom .entry)) (now (hstart .entry)) (now (hstop .entry)) (now (hrow .entry)) (now (ended .entry)) (now (next .entry)) (now (from .entry)) (now (to .entry)) among) b ring
-        (lent (cells (now (qstream .entry)) (now (qrow .entry)) (now (qstart .entry)) (now (qstop .entry))) (now (streams .entry)) (now (rows .entry))) a
-        (headsIn (now (hchrom .exit)) (now (hstart .exit)) (now (hstop .exit)) (now (hrow .exit)) (now (ended .exit)) (now (next .exit)) (now (from .entry)) (now (to .entry)) among)
-        (lent (cells (now (qstream .exit)) (now (qrow .exit)) (now (qstart .exit)) (now (qstop .exit))) (now (streams .exit)) (now (rows .exit))) ⌝ }
+    requires { ⌜ Settleable (cols (now chrom) (now start) (now stop)) (headsBy (now fours) (now ended) (now next) (now from) (now to) (fixed .streams)) ring
+        (lent (now queue) (now answers)) ⌝ }
+    ensures { λ a. ⌜ SettlesAs (cols (now (chrom .entry)) (now (start .entry)) (now (stop .entry))) (fixed .chroms)
+        (headsBy (now (fours .entry)) (now (ended .entry)) (now (next .entry)) (now (from .entry)) (now (to .entry)) (fixed .streams)) b ring
+        (lent (now (queue .entry)) (now (answers .entry))) a
+        (headsBy (now (fours .exit)) (now (ended .exit)) (now (next .exit)) (now (from .entry)) (now (to .entry)) (fixed .streams))
+        (lent (now (queue .exit)) (now (answers .exit))) ⌝ }
 {
-    let live = ring.clear(qstream, qrow, qstart, qstop, b);
+    let live = ring.clear(queue, b);
     draw(
-        hchrom,
-        hstart,
-        hstop,
-        hrow,
+        fours,
         ended,
         next,
         from,
         to,
-        among,
-        n,
+        fixed,
         live,
         b,
         chrom,
         start,
         stop,
-        qstream,
-        qrow,
-        qstart,
-        qstop,
-        streams,
-        rows,
+        queue,
+        answers,
     )
 }

@@ -9,7 +9,7 @@ use native.Mathlib.Omega.{arith}
 use lib.ListN.{length}
 use lib.Dec.{leb}
 use borrow.Author.Tests.{le-leb, lt-leb}
-use Rattle.lists.specs.Lists.{filter, head?}
+use Rattle.basics.specs.Lists.{filter, head?}
 use Rattle.rules.specs.declared.Base.{Base}
 use Rattle.rules.specs.Overlap.{overlaps}
 use Rattle.queue.specs.declared.Ring.{Ring}
@@ -28,7 +28,7 @@ push-held q c x (Done q′) c′ h =
     rw (lt-leb (q .room) (length (waiting q c)) (d .fewer), d .more)
 push-held q c x Full c′ h = rw (le-leb (q .room) (length (waiting q c)) (omega (arith, h .full refl .full)))
 
--- two rings over columns of their own, in which the same records wait
+-- two rings over memory of their own, in which the same records wait
 module _ (q p : Ring) (c d : Cells) (same : waiting q c ≡ waiting p d) where
   pub push-alike : (x : Slot) (r s : Pushed) (c′ d′ : Cells) → q .room ≡ p .room → q .chrom ≡ p .chrom → Pushes q c x r c′ → Pushes p d x s d′ → held r c′ ≡ held s d′
   push-alike x r s c′ d′ rooms chroms h k = push-held q c x r c′ h ∙ rw (same, rooms, chroms) (sym (push-held p d x s d′ k))
@@ -36,10 +36,9 @@ module _ (q p : Ring) (c d : Cells) (same : waiting q c ≡ waiting p d) where
   pub clear-alike : (b : Base) (q′ p′ : Ring) (c′ d′ : Cells) → Clears q c b q′ c′ → Clears p d b p′ d′ → waiting q′ c′ ≡ waiting p′ d′
   clear-alike b q′ p′ c′ d′ h k = h .left ∙ rw same (sym (k .left))
 
-  pub scan-alike : (b : Base) (ss rs ss₁ rs₁ ss₂ rs₂ : List ℕ) (m n : ℕ) →
-      Scans (filter (overlaps b) (waiting q c)) ss rs m ss₁ rs₁ → Scans (filter (overlaps b) (waiting p d)) ss rs n ss₂ rs₂ → (m ≡ n) × (ss₁ ≡ ss₂) × (rs₁ ≡ rs₂)
-  scan-alike b ss rs ss₁ rs₁ ss₂ rs₂ m n h k =
-      (h .count ∙ rw same (sym (k .count)), h .streams ∙ rw same (sym (k .streams)), h .rows ∙ rw same (sym (k .rows)))
+  pub scan-alike : (b : Base) (l l₁ l₂ : List (List ℕ)) (m n : ℕ) →
+      Scans (filter (overlaps b) (waiting q c)) l m l₁ → Scans (filter (overlaps b) (waiting p d)) l n l₂ → (m ≡ n) × (l₁ ≡ l₂)
+  scan-alike b l l₁ l₂ m n h k = (h .count ∙ rw same (sym (k .count)), h .answers ∙ rw same (sym (k .answers)))
 
   pub front-alike : (r s : Front) → r ≡ frontOf (head? (waiting q c)) → s ≡ frontOf (head? (waiting p d)) → r ≡ s
   front-alike r s h k = h ∙ rw same (sym k)

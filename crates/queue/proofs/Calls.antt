@@ -9,18 +9,18 @@ use native.Mathlib.Nat.{zero-add}
 use lib.ListN.{length}
 use lib.Dec.{leb}
 use borrow.Author.Tests.{eq-eqb}
-use Rattle.lists.specs.Lists.{filter, All, nil, cons}
-use Rattle.lists.proofs.ListLaws.{all-append, filter-passes, length-filter}
-use Rattle.lists.proofs.EdgeLaws.{all-build, all-built}
+use Rattle.basics.specs.Lists.{filter, All, nil, cons}
+use Rattle.basics.proofs.ListLaws.{all-append, filter-passes, length-filter}
+use Rattle.basics.proofs.EdgeLaws.{all-build, all-built}
 use Rattle.rules.specs.declared.Base.{Base}
 use Rattle.rules.specs.declared.Chrom.{Chrom}
 use Rattle.rules.specs.Rows.{Record}
-use Rattle.rules.specs.Overlap.{live, overlaps}
+use Rattle.rules.specs.Overlap.{lasts, live, overlaps}
 use Rattle.queue.specs.declared.Ring.{Ring}
 use Rattle.queue.specs.declared.Slot.{Slot}
 use Rattle.queue.specs.declared.Pushed.{Pushed}
 use Rattle.queue.specs.Ring.{Cells, Fair, recordOf, nth, waiting}
-use Rattle.queue.specs.Deeds.{Clears, Queues, Pushes, Scans, held, endsAfter}
+use Rattle.queue.specs.Deeds.{Clears, Queues, Pushes, Scans, held}
 use Rattle.queue.proofs.Waiting.{length-waiting, nothing-waits}
 use Rattle.queue.proofs.Alike.{push-held}
 
@@ -30,15 +30,8 @@ use Rattle.queue.proofs.Alike.{push-held}
 abbrev pub fresh : ℕ → Chrom → Ring
 fresh room chrom = record { head = 0; len = 0; room = room; chrom = chrom }
 
-pub fresh-fair : (room : ℕ) (chrom : Chrom) (c : Cells) → 0 < room → room ≤ 65536 →
-    length (c .stream) ≡ room → length (c .row) ≡ room → length (c .start) ≡ room → length (c .stop) ≡ room → Fair (fresh room chrom) c
-fresh-fair room chrom c h k s r a e = record {
-  sound = record { inside = h; fits = omega arith; small = k };
-  streams = s;
-  rows = r;
-  starts = a;
-  stops = e;
-}
+pub fresh-fair : (room : ℕ) (chrom : Chrom) (c : Cells) → 0 < room → room ≤ 65536 → length c ≡ room → Fair (fresh room chrom) c
+fresh-fair room chrom c h k e = record { sound = record { inside = h; fits = omega arith; small = k }; slots = e }
 
 pub fresh-none : (room : ℕ) (chrom : Chrom) (c : Cells) → waiting (fresh room chrom) c ≡ []
 fresh-none room chrom c = nothing-waits (fresh room chrom) c refl
@@ -57,7 +50,7 @@ module _ {P : Record → Type 0} (q : Ring) (c : Cells) where
 -- ---- all that waits stays live
 
 -- a slot that ends after the base's start is live on the base's chromosome
-pub slot-live : (b : Base) (q : Ring) (x : Slot) → q .chrom ≡ b .chrom → endsAfter (b .start) (x .stop) ≡ true → live b (recordOf (q .chrom) x) ≡ true
+pub slot-live : (b : Base) (q : Ring) (x : Slot) → q .chrom ≡ b .chrom → lasts (b .start) (x .stop) ≡ true → live b (recordOf (q .chrom) x) ≡ true
 slot-live b q x e h = rw (e, eq-eqb (b .chrom .0) (b .chrom .0) refl) h
 
 module _ {q : Ring} {c : Cells} (b : Base) where
@@ -69,7 +62,7 @@ module _ {q : Ring} {c : Cells} (b : Base) where
 
 -- ---- how many rows a scan writes
 
-pub scan-few : (q : Ring) (c : Cells) (b : Base) {ss rs ss′ rs′ : List ℕ} {n : ℕ} → Scans (filter (overlaps b) (waiting q c)) ss rs n ss′ rs′ → n ≤ q .len
+pub scan-few : (q : Ring) (c : Cells) (b : Base) {l l′ : List (List ℕ)} {n : ℕ} → Scans (filter (overlaps b) (waiting q c)) l n l′ → n ≤ q .len
 scan-few q c b h = omega (arith, h .count, length-filter (overlaps b) (waiting q c), length-waiting q c)
 
 -- ---- room

@@ -1,15 +1,15 @@
 -- Where the numbers of a ring stand, and what a store to one of them changes.
 use mathlib.Core.Path.{_≡_, _∙_}
+use mathlib.Core.List.{List, []}
 use Prim.Native.Nat.{ℕ, suc, _+_, _-_, _≤_, _<_}
 use native.Mathlib.Omega.{arith}
 use native.Mathlib.Decide.{decLt}
 use lib.ListN.{set, length-set}
 use lib.Seq.{getD-set-same, getD-set-other}
 use borrow.Author.Tests.{lt-ltb, le-ltb}
-use Rattle.lists.proofs.BuildLaws.{build-same}
+use Rattle.basics.proofs.BuildLaws.{build-same}
 use Rattle.queue.specs.declared.Ring.{Ring}
-use Rattle.queue.specs.declared.Slot.{Slot}
-use Rattle.queue.specs.Ring.{Cells, cells, Fair, recordOf, place, nth, oldest}
+use Rattle.queue.specs.Ring.{Cells, Fair, recordOf, slotIn, place, nth, oldest}
 
 -- ---- places
 
@@ -71,44 +71,21 @@ module _ (h n : ℕ) (hn : h < n) where
 
 -- ---- stores
 
--- the columns with a slot stored at place i
-abbrev pub put : Cells → ℕ → Slot → Cells
-put c i x = cells (set (c .stream) i (x .stream .0)) (set (c .row) i (x .row)) (set (c .start) i (x .start)) (set (c .stop) i (x .stop))
-
 -- one of the numbers of a ring, and where it stands
-module _ (q : Ring) (c : Cells) (f : Fair q c) (k at : ℕ) (kn : k < q .room) (here : at ≡ place (q .head) (q .room) k) (x : Slot) where
-  pub nth-put : nth q (put c at x) k ≡ recordOf (q .chrom) x
+module _ (q : Ring) (c : Cells) (f : Fair q c) (k at : ℕ) (kn : k < q .room) (here : at ≡ place (q .head) (q .room) k) (x : List ℕ) where
+  pub nth-put : nth q (set c at x) k ≡ recordOf (q .chrom) (slotIn x)
   nth-put =
       let i : at < q .room = rw here (place-lt (q .head) (q .room) (omega arith) k (omega arith)) in
-      rw (
-        ← here,
-        getD-set-same (c .stream) at (x .stream .0) 0 (omega arith),
-        getD-set-same (c .row) at (x .row) 0 (omega arith),
-        getD-set-same (c .start) at (x .start) 0 (omega arith),
-        getD-set-same (c .stop) at (x .stop) 0 (omega arith),
-      )
+      rw (← here, getD-set-same c at x [] (omega arith))
 
-  pub nth-other : (j : ℕ) → j < q .room → (j ≡ k → ⊥) → nth q (put c at x) j ≡ nth q c j
+  pub nth-other : (j : ℕ) → j < q .room → (j ≡ k → ⊥) → nth q (set c at x) j ≡ nth q c j
   nth-other j jn other =
-      let i : ℕ = place (q .head) (q .room) j in
-      let apart : i ≡ at → ⊥ = λ e. other (place-apart (q .head) (q .room) (omega arith) j k jn kn (e ∙ here)) in
-      rw (
-        getD-set-other (c .stream) at i (x .stream .0) 0 apart,
-        getD-set-other (c .row) at i (x .row) 0 apart,
-        getD-set-other (c .start) at i (x .start) 0 apart,
-        getD-set-other (c .stop) at i (x .stop) 0 apart,
-      )
+      rw (getD-set-other c at (place (q .head) (q .room) j) x [] (λ e. other (place-apart (q .head) (q .room) (omega arith) j k jn kn (e ∙ here))))
 
   -- those ahead of it stay
-  pub oldest-put : (n : ℕ) → n ≤ k → oldest n q (put c at x) ≡ oldest n q c
-  oldest-put n h = build-same (nth q c) (nth q (put c at x)) n 0 (λ j a b. nth-other j (omega arith) (λ e. omega arith))
+  pub oldest-put : (n : ℕ) → n ≤ k → oldest n q (set c at x) ≡ oldest n q c
+  oldest-put n h = build-same (nth q c) (nth q (set c at x)) n 0 (λ j a b. nth-other j (omega arith) (λ e. omega arith))
 
--- lengths stay
-pub fair-put : (q : Ring) (c : Cells) (at : ℕ) (x : Slot) → Fair q c → Fair q (put c at x)
-fair-put q c at x f = record {
-  sound = f .sound;
-  streams = simp length-set (f .streams);
-  rows = simp length-set (f .rows);
-  starts = simp length-set (f .starts);
-  stops = simp length-set (f .stops);
-}
+-- the length stays
+pub fair-put : (q : Ring) (c : Cells) (at : ℕ) (x : List ℕ) → Fair q c → Fair q (set c at x)
+fair-put q c at x f = record { sound = f .sound; slots = simp length-set (f .slots) }

@@ -3,13 +3,13 @@ use mathlib.Core.Path.{_≡_, refl, sym, ap}
 use mathlib.Core.List.{List, [], _∷_}
 use Prim.Native.Nat.{ℕ, suc, _-_}
 use native.Mathlib.Omega.{arith}
-use lib.ListN.{length, getD}
+use lib.ListN.{length}
 use borrow.Author.Tests.{eq-eqb, ne-eqb}
-use Rattle.lists.specs.Build.{build}
-use Rattle.lists.specs.Lists.{filter}
-use Rattle.lists.proofs.BuildLaws.{build-length}
-use Rattle.lists.proofs.ListLaws.{filter-cong, filter-none}
-use Rattle.lists.proofs.EdgeLaws.{build-shift, all-build}
+use Rattle.basics.specs.Build.{build}
+use Rattle.basics.specs.Lists.{filter}
+use Rattle.basics.proofs.BuildLaws.{build-length}
+use Rattle.basics.proofs.ListLaws.{filter-cong, filter-none}
+use Rattle.basics.proofs.EdgeLaws.{build-shift, all-build}
 use Rattle.rules.specs.declared.Base.{Base}
 use Rattle.rules.specs.Rows.{Record}
 use Rattle.rules.specs.Overlap.{live}
@@ -50,11 +50,11 @@ module _ (q : Ring) (c : Cells) (b : Base) where
   live-other e = filter-none (all-build (nth q c) (q .len) 0 (λ j i l. rw (ne-eqb (q .chrom .0) (b .chrom .0) e)))
 
 -- where the first that waits starts
-module _ (q : Ring) (starts : List ℕ) where
-  pub front-none : q .len ≡ 0 → Fronts q starts Nothing
-  front-none h = record { first = λ c e. rw (nothing-waits q c h) }
+module _ (q : Ring) (c : Cells) where
+  pub front-none : q .len ≡ 0 → Fronts q c Nothing
+  front-none h = record { first = rw (nothing-waits q c h) }
 
-  pub front-first : Sound q → (q .len ≡ 0 → ⊥) → Fronts q starts (At (getD starts (q .head) 0))
+  pub front-first : Sound q → (q .len ≡ 0 → ⊥) → Fronts q c (At (slotAt c (q .head) .start))
   front-first s h =
       let more : q .len ≡ suc (q .len - 1) = omega arith in
-      record { first = λ c e. rw (waiting-cons q c (q .len - 1) _ s more refl, place-zero (q .head) (q .room) (s .inside), e) }
+      record { first = rw (waiting-cons q c (q .len - 1) _ s more refl, place-zero (q .head) (q .room) (s .inside)) }

@@ -6,10 +6,10 @@ use mathlib.Core.List.{List, [], _∷_, _++_, map}
 use Prim.Native.Nat.{ℕ, _≤_, _<_}
 use lib.ListN.{length, drop}
 use lib.Dec.{ltb}
-use Rattle.lists.specs.Lists.{filter, front, back, head?, All}
+use Rattle.basics.specs.Lists.{filter, front, back, head?, All}
 use Rattle.rules.specs.declared.Base.{Base}
 use Rattle.rules.specs.Rows.{Record}
-use Rattle.rules.specs.Overlap.{live}
+use Rattle.rules.specs.Overlap.{lasts, live}
 use Rattle.queue.specs.declared.Ring.{Ring}
 use Rattle.queue.specs.declared.Slot.{Slot}
 use Rattle.queue.specs.declared.Pushed.{Pushed}
@@ -17,16 +17,6 @@ use Rattle.queue.specs.declared.Pushed.the-variants.{Done, Full}
 use Rattle.queue.specs.declared.Front.{Front}
 use Rattle.queue.specs.declared.Front.the-variants.{Nothing, At}
 use Rattle.queue.specs.Ring.{Cells, Fair, Sound, recordOf, oldest, waiting}
-
--- ---- the two tests, on a base's own chromosome
-
--- "ends after b.start"
-abbrev pub endsAfter : ℕ → ℕ → Bool
-endsAfter from stop = ltb from stop
-
--- "start < base stop"
-abbrev pub startsBefore : ℕ → ℕ → Bool
-startsBefore until start = ltb start until
 
 -- ---- clearing
 
@@ -48,7 +38,7 @@ pub record Queues (q : Ring) (c : Cells) (x : Slot) (q′ : Ring) (c′ : Cells)
   pub fewer : length (waiting q c) < q .room
   pub more : waiting q′ c′ ≡ waiting q c ++ (recordOf (q .chrom) x ∷ [])
 
--- "9 if Q live records are queued already": the columns are as they were
+-- "9 if Q live records are queued already": the slots are as they were
 pub record Refuses (q : Ring) (c c′ : Cells) : Type 0 where
   pub full : length (waiting q c) ≡ q .room
   pub same : c′ ≡ c
@@ -65,22 +55,24 @@ held Full c = none
 
 -- ---- the records of a base
 
--- "On success the first n answer rows hold stream and row number; the others stay.": a part of each record, ahead of an old column
-abbrev pub written : (Record → ℕ) → List Record → List ℕ → List ℕ
+-- "On success the first n answer rows hold stream and row number; the others stay.": a part of each record, ahead of what stood there
+abbrev pub written : {A : Type 0} → (Record → A) → List Record → List A → List A
 written part hits old = map part hits ++ drop (length hits) old
 
--- what a scan asks: answer columns at least as long as the room, and that the queue was cleared for the base
-pub record Scannable (q : Ring) (c : Cells) (b : Base) (ss rs : List ℕ) : Type 0 where
+-- "stream and row number"
+abbrev pub answerRow : Record → List ℕ
+answerRow r = r .stream .0 ∷ r .row ∷ []
+
+-- what a scan asks: answer rows for all that can wait, and that the queue was cleared for the base
+pub record Scannable (q : Ring) (c : Cells) (b : Base) (l : List (List ℕ)) : Type 0 where
   pub fair : Fair q c
   pub cleared : All (λ r. live b r ≡ true) (waiting q c)
-  pub streams : q .room ≤ length ss
-  pub rows : q .room ≤ length rs
+  pub answers : q .room ≤ length l
 
--- the count of the hits, and both answer columns after it
-pub record Scans (hits : List Record) (ss rs : List ℕ) (n : ℕ) (ss′ rs′ : List ℕ) : Type 0 where
+-- the count of the hits, and the answer rows after it
+pub record Scans (hits : List Record) (l : List (List ℕ)) (n : ℕ) (l′ : List (List ℕ)) : Type 0 where
   pub count : n ≡ length hits
-  pub streams : ss′ ≡ written (λ r. r .stream .0) hits ss
-  pub rows : rs′ ≡ written (λ r. r .row) hits rs
+  pub answers : l′ ≡ written answerRow hits l
 
 -- ---- the first that waits
 
@@ -89,27 +81,27 @@ abbrev pub frontOf : Option Record → Front
 frontOf none = Nothing
 frontOf (some r) = At (r .it .start)
 
--- of the first that waits, whatever stands in the columns but the starts
-pub record Fronts (q : Ring) (starts : List ℕ) (r : Front) : Type 0 where
-  pub first : (c : Cells) → c .start ≡ starts → r ≡ frontOf (head? (waiting q c))
+-- of the first that waits
+pub record Fronts (q : Ring) (c : Cells) (r : Front) : Type 0 where
+  pub first : r ≡ frontOf (head? (waiting q c))
 
 -- ---- inside of clearing, on the ring's own chromosome
 
 -- a record that stays
 abbrev pub ends : ℕ → Record → Bool
-ends from r = endsAfter from (r .it .stop)
+ends from r = lasts from (r .it .stop)
 
--- past what is dead at the front: q′ over the same columns, whatever stands in those but the stops
-pub record Skips (q : Ring) (stops : List ℕ) (from : ℕ) (q′ : Ring) : Type 0 where
+-- past what is dead at the front: q′ over the same slots
+pub record Skips (q : Ring) (c : Cells) (from : ℕ) (q′ : Ring) : Type 0 where
   pub sound : Sound q′
   pub room : q′ .room ≡ q .room
   pub chrom : q′ .chrom ≡ q .chrom
-  pub left : (c : Cells) → c .stop ≡ stops → waiting q′ c ≡ back (λ r. not (ends from r)) (waiting q c)
+  pub left : waiting q′ c ≡ back (λ r. not (ends from r)) (waiting q c)
 
 -- how many live ones stand at the front
-pub record Leads (q : Ring) (stops : List ℕ) (from n : ℕ) : Type 0 where
+pub record Leads (q : Ring) (c : Cells) (from n : ℕ) : Type 0 where
   pub few : n ≤ q .len
-  pub ahead : (c : Cells) → c .stop ≡ stops → oldest n q c ≡ front (ends from) (waiting q c)
+  pub ahead : oldest n q c ≡ front (ends from) (waiting q c)
 
 -- the live ones, moved up
 pub record Packs (q : Ring) (c : Cells) (from : ℕ) (q′ : Ring) (c′ : Cells) : Type 0 where

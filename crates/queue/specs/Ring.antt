@@ -1,33 +1,31 @@
--- A ring in four lent columns, and the list of the records that wait in it.
+-- A ring of lent slots, and the list of the records that wait in it.
 use mathlib.Core.Path.{_≡_}
 use mathlib.Core.Bool.{cond}
-use mathlib.Core.List.{List}
+use mathlib.Core.List.{List, []}
 use Prim.Native.Nat.{ℕ, _+_, _-_, _≤_, _<_}
 use lib.ListN.{length, getD}
 use lib.Dec.{ltb}
-use Rattle.lists.specs.Build.{build}
+use Rattle.basics.specs.Build.{build}
 use Rattle.rules.specs.declared.Chrom.{Chrom}
 use Rattle.rules.specs.Rows.{Record}
 use Rattle.queue.specs.declared.Ring.{Ring}
 use Rattle.queue.specs.declared.Slot.{Slot}
 
--- "`BinaryHeap`, `VecDeque`: the heads in the run; a ring in lent memory.": the lent memory, a column for each part of a slot
-pub record Cells : Type 0 where
-  pub stream : List ℕ
-  pub row : List ℕ
-  pub start : List ℕ
-  pub stop : List ℕ
-
-abbrev pub cells : List ℕ → List ℕ → List ℕ → List ℕ → Cells
-cells s r a e = record { stream = s; row = r; start = a; stop = e }
+-- "`BinaryHeap`, `VecDeque`: the heads in the run; a ring in lent memory.": the lent memory, four numbers a slot
+abbrev pub Cells : Type 0
+Cells = List (List ℕ)
 
 -- a slot's record, on a chromosome
 abbrev pub recordOf : Chrom → Slot → Record
 recordOf chrom x = record { stream = x .stream; row = x .row; it = record { chrom = chrom; start = x .start; stop = x .stop } }
 
--- the slot at place i of the columns
+-- the slot that four numbers are
+abbrev pub slotIn : List ℕ → Slot
+slotIn x = record { stream = record { 0 = getD x 0 0 }; row = getD x 1 0; start = getD x 2 0; stop = getD x 3 0 }
+
+-- the slot at place i
 abbrev pub slotAt : Cells → ℕ → Slot
-slotAt c i = record { stream = record { 0 = getD (c .stream) i 0 }; row = getD (c .row) i 0; start = getD (c .start) i 0; stop = getD (c .stop) i 0 }
+slotAt c i = slotIn (getD c i [])
 
 -- where number k of a ring stands, counted from its head: behind the last place comes the first
 unfoldable pub place : ℕ → ℕ → ℕ → ℕ
@@ -41,7 +39,7 @@ nth q c k = recordOf (q .chrom) (slotAt c (place (q .head) (q .room) k))
 abbrev pub oldest : ℕ → Ring → Cells → List Record
 oldest n q c = build (nth q c) n 0
 
--- "records waiting for later bases", the oldest first: of any ring and any columns
+-- "records waiting for later bases", the oldest first: of any ring and any memory
 unfoldable pub waiting : Ring → Cells → List Record
 waiting q c = oldest (q .len) q c
 
@@ -51,10 +49,7 @@ pub record Sound (q : Ring) : Type 0 where
   pub fits : q .len ≤ q .room
   pub small : q .room ≤ 65536
 
--- what a ring and its columns keep to
+-- what a ring and its memory keep to
 pub record Fair (q : Ring) (c : Cells) : Type 0 where
   pub sound : Sound q
-  pub streams : length (c .stream) ≡ q .room
-  pub rows : length (c .row) ≡ q .room
-  pub starts : length (c .start) ≡ q .room
-  pub stops : length (c .stop) ≡ q .room
+  pub slots : length c ≡ q .room

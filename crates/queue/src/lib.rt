@@ -1,14 +1,14 @@
-// Records waiting for later bases: a ring in four lent columns (stream, row, start, stop), all on one chromosome.
+// Records waiting for later bases: a ring of lent slots (stream, row, start, stop), all on one chromosome.
 use rules::Base;
 use rules::Chrom;
 use rules::Stream;
 ghost use mathlib.Core.Path.{_≡_};
 ghost use Prim.Native.Nat.{_+_, _≤_, _<_};
 ghost use lib.ListN.{length};
-ghost use Rattle.lists.specs.Lists.{filter};
+ghost use Rattle.basics.specs.Lists.{filter};
 ghost use Rattle.rules.specs.Overlap.{overlaps};
-ghost use Rattle.queue.specs.Ring.{cells, Sound, Fair, place, waiting};
-ghost use Rattle.queue.specs.Deeds.{endsAfter, startsBefore, Clears, Pushes, Scannable, Scans, Fronts, Skips, Leads, Packs, Packable};
+ghost use Rattle.queue.specs.Ring.{Fair, place, waiting};
+ghost use Rattle.queue.specs.Deeds.{Clears, Pushes, Scannable, Scans, Fronts, Skips, Leads, Packs, Packable};
 
 // How many wait, where the oldest stands, how many slots were lent, and the chromosome that all are on.
 pub struct Ring {
@@ -47,20 +47,6 @@ pub fn place_of(head: usize, room: usize, k: usize) -> usize
     if x < room { x } else { x - room }
 }
 
-// Whether a record that ends at stop is live for a base of its chromosome that starts at from.
-pub fn is_live(from: u64, stop: u64) -> bool
-    ensures { λ r. ⌜ r ≡ endsAfter from stop ⌝ }
-{
-    from < stop
-}
-
-// Whether a base of its chromosome that ends at until reaches a record that starts at start.
-pub fn is_reached(start: u64, until: u64) -> bool
-    ensures { λ r. ⌜ r ≡ startsBefore until start ⌝ }
-{
-    start < until
-}
-
 impl Ring {
     // A ring in which nothing waits.
     pub fn empty(room: usize, chrom: Chrom) -> Ring
@@ -75,29 +61,22 @@ impl Ring {
     }
 
     // Where the first that waits starts, or that nothing does.
-    pub fn front(self, start: &[u64]) -> Front
-        requires { ⌜ Sound self × (length (now start) ≡ self .room) ⌝ }
-        ensures { λ r. ⌜ Fronts self (now (start .entry)) r ⌝ }
+    pub fn front(self, queue: &[[u64; 4]]) -> Front
+        requires { ⌜ Fair self (now queue) ⌝ }
+        ensures { λ r. ⌜ Fronts self (now (queue .entry)) r ⌝ }
     {
         let head = self.head;
         if self.len == 0 {
             return Front::Nothing;
         }
-        Front::At(start[head])
+        Front::At(queue[head][2])
     }
 
     // One more at the end, where there is room.
-    pub fn push(
-        self,
-        stream: &mut [u64],
-        row: &mut [u64],
-        start: &mut [u64],
-        stop: &mut [u64],
-        slot: Slot,
-    ) -> Pushed
-        requires { ⌜ Fair self (cells (now stream) (now row) (now start) (now stop)) ⌝ }
-        ensures { λ r. ⌜ Pushes self (cells (now (stream .entry)) (now (row .entry)) (now (start .entry)) (now (stop .entry))) slot r
-            (cells (now (stream .exit)) (now (row .exit)) (now (start .exit)) (now (stop .exit))) ⌝ }
+    pub fn push(self, queue: &mut [[u64; 4]], slot: Slot) -> Pushed
+        requires { ⌜ Fair self (now queue) ⌝ }
+        ensures { λ r. ⌜ Pushes self (now (queue .entry)) slot r
+            (now (queue .exit)) ⌝ }
     {
         let head = self.head;
         let len = self.len;
@@ -108,10 +87,8 @@ impl Ring {
         }
         let at = place_of(head, room, len);
         let named = slot.stream;
-        stream[at] = named.0;
-        row[at] = slot.row;
-        start[at] = slot.start;
-        stop[at] = slot.stop;
+        let x = [named.0, slot.row, slot.start, slot.stop];
+        queue[at] = x;
         Pushed::Done(Ring {
             head: head,
             len: len + 1,
@@ -121,16 +98,16 @@ impl Ring {
     }
 
     // Past the records at the front that do not end after from: the head moves, and no slot does.
-    fn skip(self, stop: &[u64], from: u64) -> Ring
-        requires { ⌜ Sound self × (length (now stop) ≡ self .room) ⌝ }
-        ensures { λ r. ⌜ Skips self (now (stop .entry)) from r ⌝ }
+    fn skip(self, queue: &[[u64; 4]], from: u64) -> Ring
+        requires { ⌜ Fair self (now queue) ⌝ }
+        ensures { λ r. ⌜ Skips self (now (queue .entry)) from r ⌝ }
     {
         let room = self.room;
         let chrom = self.chrom;
         let mut head = self.head;
         let mut len = self.len;
         while 0 < len {
-            if is_live(from, stop[head]) {
+            if measures::lasts(from, queue[head][3]) {
                 return Ring {
                     head: head,
                     len: len,
@@ -150,9 +127,9 @@ impl Ring {
     }
 
     // How many records at the front end after from, up to the first that does not.
-    fn live_ahead(self, stop: &[u64], from: u64) -> usize
-        requires { ⌜ Sound self × (length (now stop) ≡ self .room) ⌝ }
-        ensures { λ r. ⌜ Leads self (now (stop .entry)) from r ⌝ }
+    fn live_ahead(self, queue: &[[u64; 4]], from: u64) -> usize
+        requires { ⌜ Fair self (now queue) ⌝ }
+        ensures { λ r. ⌜ Leads self (now (queue .entry)) from r ⌝ }
     {
         let head = self.head;
         let len = self.len;
@@ -160,7 +137,7 @@ impl Ring {
         let mut k: usize = 0;
         while k < len {
             let at = place_of(head, room, k);
-            if !is_live(from, stop[at]) {
+            if !measures::lasts(from, queue[at][3]) {
                 return k;
             }
             k += 1;
@@ -169,18 +146,10 @@ impl Ring {
     }
 
     // The records that end after from, moved up in their order; the first n are known to be among them and stay.
-    fn pack(
-        self,
-        stream: &mut [u64],
-        row: &mut [u64],
-        start: &mut [u64],
-        stop: &mut [u64],
-        from: u64,
-        n: usize,
-    ) -> Ring
-        requires { ⌜ Packable self (cells (now stream) (now row) (now start) (now stop)) from n ⌝ }
-        ensures { λ r. ⌜ Packs self (cells (now (stream .entry)) (now (row .entry)) (now (start .entry)) (now (stop .entry))) from r
-            (cells (now (stream .exit)) (now (row .exit)) (now (start .exit)) (now (stop .exit))) ⌝ }
+    fn pack(self, queue: &mut [[u64; 4]], from: u64, n: usize) -> Ring
+        requires { ⌜ Packable self (now queue) from n ⌝ }
+        ensures { λ r. ⌜ Packs self (now (queue .entry)) from r
+            (now (queue .exit)) ⌝ }
     {
         let head = self.head;
         let len = self.len;
@@ -191,12 +160,10 @@ impl Ring {
         while k < len {
             let at = place_of(head, room, k);
             k += 1;
-            if is_live(from, stop[at]) {
+            if measures::lasts(from, queue[at][3]) {
                 let to = place_of(head, room, kept);
-                stream[to] = stream[at];
-                row[to] = row[at];
-                start[to] = start[at];
-                stop[to] = stop[at];
+                let x = queue[at];
+                queue[to] = x;
                 kept += 1;
             }
         }
@@ -210,17 +177,10 @@ impl Ring {
 
     // The records that are live for the base b, in their order. On another chromosome than the ring's there is none. Else the head
     // moves past what is dead, nothing is moved up to the first dead one behind it, and the rest is gone through once.
-    pub fn clear(
-        self,
-        stream: &mut [u64],
-        row: &mut [u64],
-        start: &mut [u64],
-        stop: &mut [u64],
-        b: Base,
-    ) -> Ring
-        requires { ⌜ Fair self (cells (now stream) (now row) (now start) (now stop)) ⌝ }
-        ensures { λ r. ⌜ Clears self (cells (now (stream .entry)) (now (row .entry)) (now (start .entry)) (now (stop .entry))) b r
-            (cells (now (stream .exit)) (now (row .exit)) (now (start .exit)) (now (stop .exit))) ⌝ }
+    pub fn clear(self, queue: &mut [[u64; 4]], b: Base) -> Ring
+        requires { ⌜ Fair self (now queue) ⌝ }
+        ensures { λ r. ⌜ Clears self (now (queue .entry)) b r
+            (now (queue .exit)) ⌝ }
     {
         let mine = self.chrom;
         let its = b.chrom;
@@ -228,26 +188,17 @@ impl Ring {
         if mine.0 != its.0 {
             return Ring::empty(self.room, its);
         }
-        let led = self.skip(stop, from);
-        let n = led.live_ahead(stop, from);
-        led.pack(stream, row, start, stop, from, n)
+        let led = self.skip(queue, from);
+        let n = led.live_ahead(queue, from);
+        led.pack(queue, from, n)
     }
 
-    // The stream and the row of each record of the base b, in their order, to the answer columns: how many. All that wait are live
+    // The stream and the row of each record of the base b, in their order, to the answer rows: how many. All that wait are live
     // for b, so the stops are not looked at.
-    pub fn scan(
-        self,
-        stream: &[u64],
-        row: &[u64],
-        start: &[u64],
-        stop: &[u64],
-        b: Base,
-        streams: &mut [u64],
-        rows: &mut [u64],
-    ) -> usize
-        requires { ⌜ Scannable self (cells (now stream) (now row) (now start) (now stop)) b (now streams) (now rows) ⌝ }
-        ensures { λ r. ⌜ Scans (filter (overlaps b) (waiting self (cells (now (stream .entry)) (now (row .entry)) (now (start .entry)) (now (stop .entry)))))
-            (now (streams .entry)) (now (rows .entry)) r (now (streams .exit)) (now (rows .exit)) ⌝ }
+    pub fn scan(self, queue: &[[u64; 4]], b: Base, answers: &mut [[u64; 2]]) -> usize
+        requires { ⌜ Scannable self (now queue) b (now answers) ⌝ }
+        ensures { λ r. ⌜ Scans (filter (overlaps b) (waiting self (now (queue .entry))))
+            (now (answers .entry)) r (now (answers .exit)) ⌝ }
     {
         let head = self.head;
         let len = self.len;
@@ -258,9 +209,9 @@ impl Ring {
         while k < len {
             let at = place_of(head, room, k);
             k += 1;
-            if is_reached(start[at], until) {
-                streams[n] = stream[at];
-                rows[n] = row[at];
+            if measures::reaches(until, queue[at][2]) {
+                let x = [queue[at][0], queue[at][1]];
+                answers[n] = x;
                 n += 1;
             }
         }

@@ -4,8 +4,8 @@ use mathlib.Core.Path.{_≡_, refl, _∙_}
 use mathlib.Core.List.{List}
 use native.Mathlib.Omega.{arith}
 use lib.ListN.{length, getD}
-use Rattle.lists.specs.Build.{build}
-use Rattle.lists.proofs.BuildLaws.{build-front, build-none}
+use Rattle.basics.specs.Build.{build}
+use Rattle.basics.proofs.BuildLaws.{build-front, build-none}
 use Rattle.lines.specs.declared.Put.{Put}
 use Rattle.lines.specs.declared.Put.the-variants.{At, Full}
 use Rattle.lines.specs.declared.Laid.{Laid}

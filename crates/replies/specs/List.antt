@@ -4,9 +4,10 @@ use Prim.Native.Nat.{ℕ}
 use Rattle.rules.specs.declared.Base.{Base}
 use Rattle.heads.specs.View.{Cols}
 use Rattle.lines.specs.Laid.{Lays}
-use Rattle.sweep.specs.declared.Run.{Run}
+use Rattle.runs.specs.declared.Run.{Run}
 use Rattle.pulls.specs.Pulls.{Lent}
-use Rattle.sweep.specs.Give.{Gives, givenOf}
+use Rattle.step.specs.Give.{Gives}
+use Rattle.runs.specs.Comes.{givenOf}
 use Rattle.replies.specs.declared.Listed.{Listed}
 use Rattle.replies.specs.Lines.{linesOf}
 

@@ -3,7 +3,7 @@ use mathlib.Core.Path.{_≡_}
 use mathlib.Core.List.{List, [], _∷_}
 use Prim.Native.Nat.{ℕ, _≤_}
 use lib.ListN.{length, getD}
-use Rattle.lists.specs.Build.{build}
+use Rattle.basics.specs.Build.{build}
 use Rattle.rules.specs.declared.Base.{Base}
 use Rattle.rules.specs.declared.Offer.{Offer}
 use Rattle.rules.specs.declared.Answer.{Answer}
@@ -12,20 +12,19 @@ use Rattle.rules.specs.Numbers.{refusalNumber, endNumber, endValues}
 use Rattle.lines.specs.Lines.{lineB, lineX, lineE}
 use Rattle.replies.specs.Lines.{rowLine}
 
--- the lent columns, where each stream's rows begin in them, and the answer columns
+-- the lent columns, where each stream's rows begin in them, and the answer rows
 pub record Source : Type 0 where
   pub start : List ℕ
   pub stop : List ℕ
   pub from : List ℕ
-  pub streams : List ℕ
-  pub rows : List ℕ
+  pub answers : List (List ℕ)
 
-abbrev pub source : List ℕ → List ℕ → List ℕ → List ℕ → List ℕ → Source
-source start stop from streams rows = record { start = start; stop = stop; from = from; streams = streams; rows = rows }
+abbrev pub source : List ℕ → List ℕ → List ℕ → List (List ℕ) → Source
+source start stop from answers = record { start = start; stop = stop; from = from; answers = answers }
 
 -- the line of answer row k
 abbrev pub lineAt : Source → ℕ → List ℕ
-lineAt t k = rowLine (t .start) (t .stop) (t .from) (getD (t .streams) k 0) (getD (t .rows) k 0)
+lineAt t k = rowLine (t .start) (t .stop) (t .from) (getD (getD (t .answers) k []) 0 0) (getD (getD (t .answers) k []) 1 0)
 
 -- the lines of the first n answer rows
 abbrev pub rowLines : Source → ℕ → List (List ℕ)
@@ -40,9 +39,8 @@ answerLines t name row b (Refused x) = lineX (refusalNumber x) row ∷ []
 answerLines t name row b (Ended e) = lineE (endNumber e) row (endValues e) ∷ []
 
 -- n answer rows are lent
-pub record Holds (t : Source) (n : ℕ) : Type 0 where
-  pub streams : n ≤ length (t .streams)
-  pub rows : n ≤ length (t .rows)
+abbrev pub Holds : Source → ℕ → Type 0
+Holds t n = n ≤ length (t .answers)
 
 -- as many as the answer counts
 abbrev pub Backs : Source → Answer → Type 0

@@ -4,15 +4,13 @@ use lines::Put;
 use rules::Answer;
 use rules::Base;
 use rules::End;
-use rules::Refusal;
-use sweep::Run;
+use runs::Run;
 ghost use mathlib.Core.Path.{_≡_};
 ghost use mathlib.Core.List.{[], _∷_};
 ghost use Prim.Native.Nat.{_+_, _≤_};
 ghost use lib.ListN.{length, getD};
-ghost use Rattle.rules.specs.Numbers.{refusalNumber, endNumber, endValues};
+ghost use Rattle.rules.specs.Numbers.{endNumber, endValues};
 ghost use Rattle.heads.specs.View.{cols};
-ghost use Rattle.queue.specs.Ring.{cells};
 ghost use Rattle.lines.specs.Lines.{lineE};
 ghost use Rattle.lines.specs.Put.{Puts};
 ghost use Rattle.lines.specs.Laid.{Lays};
@@ -28,15 +26,15 @@ pub struct Listed {
     pub lines: Laid,
 }
 
-// Where a stream's rows begin; 0 for a stream that is not there.
-fn first_of(from: &[usize], stream: u64) -> usize
-    ensures { λ r. ⌜ r ≡ getD (now (from .entry)) stream 0 ⌝ }
+// The place that a list of places names at a number, as where a stream's rows begin; 0 past its end.
+pub fn place_at(col: &[usize], k: u64) -> usize
+    ensures { λ r. ⌜ r ≡ getD (now (col .entry)) k 0 ⌝ }
 {
-    let k = stream as usize;
-    if from.len() <= k {
+    let i = k as usize;
+    if col.len() <= i {
         return 0;
     }
-    from[k]
+    col[i]
 }
 
 // The value so many rows behind a place of a column; 0 past its end.
@@ -67,7 +65,7 @@ fn put_record(
     requires { ⌜ at ≤ length (now out) ⌝ }
     ensures { λ r. ⌜ Puts (now (out .entry)) at (rowLine (now (start .entry)) (now (stop .entry)) (now (from .entry)) stream row) r (now (out .exit)) ⌝ }
 {
-    let first = first_of(from, stream);
+    let first = place_at(from, stream);
     let begins = value_at(start, first, row);
     let ends = value_at(stop, first, row);
     lines::put_r(out, at, stream, row, begins, ends)
@@ -81,17 +79,16 @@ fn put_records(
     start: &[u64],
     stop: &[u64],
     from: &[usize],
-    streams: &[u64],
-    rows: &[u64],
+    answers: &[[u64; 2]],
 ) -> Laid
-    requires { ⌜ (at ≤ length (now out)) × Holds (source (now start) (now stop) (now from) (now streams) (now rows)) n ⌝ }
+    requires { ⌜ (at ≤ length (now out)) × Holds (source (now start) (now stop) (now from) (now answers)) n ⌝ }
     ensures { λ r. ⌜ Lays (now (out .entry)) at
-        (rowLines (source (now (start .entry)) (now (stop .entry)) (now (from .entry)) (now (streams .entry)) (now (rows .entry))) n) r (now (out .exit)) ⌝ }
+        (rowLines (source (now (start .entry)) (now (stop .entry)) (now (from .entry)) (now (answers .entry))) n) r (now (out .exit)) ⌝ }
 {
     let mut place = at;
     let mut i: usize = 0;
     while i < n {
-        let put = put_record(out, place, streams[i], rows[i], start, stop, from);
+        let put = put_record(out, place, answers[i][0], answers[i][1], start, stop, from);
         let Put::At(next) = put else {
             return Laid::Part(place);
         };
@@ -111,30 +108,16 @@ fn put_found(
     start: &[u64],
     stop: &[u64],
     from: &[usize],
-    streams: &[u64],
-    rows: &[u64],
+    answers: &[[u64; 2]],
 ) -> Laid
-    requires { ⌜ (at ≤ length (now out)) × Holds (source (now start) (now stop) (now from) (now streams) (now rows)) n ⌝ }
+    requires { ⌜ (at ≤ length (now out)) × Holds (source (now start) (now stop) (now from) (now answers)) n ⌝ }
     ensures { λ r. ⌜ Lays (now (out .entry)) at
-        (foundLines (source (now (start .entry)) (now (stop .entry)) (now (from .entry)) (now (streams .entry)) (now (rows .entry))) (now (name .entry)) base n) r (now (out .exit)) ⌝ }
+        (foundLines (source (now (start .entry)) (now (stop .entry)) (now (from .entry)) (now (answers .entry))) (now (name .entry)) base n) r (now (out .exit)) ⌝ }
 {
     let put = lines::put_b(out, at, name, base.start, base.stop, n as u64);
     match put {
-        Put::At(next) => put_records(out, next, n, start, stop, from, streams, rows),
+        Put::At(next) => put_records(out, next, n, start, stop, from, answers),
         Put::Full => Laid::Part(at),
-    }
-}
-
-// The document's number of a refusal.
-fn refusal_number(x: Refusal) -> u64
-    ensures { λ r. ⌜ r ≡ refusalNumber x ⌝ }
-{
-    match x {
-        Refusal::Sizes => 1,
-        Refusal::Beyond => 3,
-        Refusal::Unlisted => 4,
-        Refusal::Unordered => 5,
-        Refusal::Reversed => 6,
     }
 }
 
@@ -143,11 +126,12 @@ fn put_end(out: &mut [u8], at: usize, e: End, row: u64) -> Put
     requires { ⌜ at ≤ length (now out) ⌝ }
     ensures { λ r. ⌜ Puts (now (out .entry)) at (lineE (endNumber e) row (endValues e)) r (now (out .exit)) ⌝ }
 {
+    let number = measures::end_number(e);
     match e {
-        End::Faulty(s, k) => lines::put_x_row(out, at, 7, row, s.0, k),
-        End::Unsorted(s, k) => lines::put_x_row(out, at, 8, row, s.0, k),
-        End::NoRoom => lines::put_x(out, at, 9, row),
-        End::NoRows => lines::put_x(out, at, 10, row),
+        End::Faulty(s, k) => lines::put_x_row(out, at, number, row, s.0, k),
+        End::Unsorted(s, k) => lines::put_x_row(out, at, number, row, s.0, k),
+        End::NoRoom => lines::put_x(out, at, number, row),
+        End::NoRows => lines::put_x(out, at, number, row),
     }
 }
 
@@ -162,22 +146,19 @@ fn put_answer(
     start: &[u64],
     stop: &[u64],
     from: &[usize],
-    streams: &[u64],
-    rows: &[u64],
+    answers: &[[u64; 2]],
 ) -> Laid
-    requires { ⌜ Backs (source (now start) (now stop) (now from) (now streams) (now rows)) answer ⌝ }
+    requires { ⌜ Backs (source (now start) (now stop) (now from) (now answers)) answer ⌝ }
     ensures { λ r. ⌜ Lays (now (out .entry)) at
-        (answerLines (source (now (start .entry)) (now (stop .entry)) (now (from .entry)) (now (streams .entry)) (now (rows .entry))) (now (name .entry)) row base answer) r (now (out .exit)) ⌝ }
+        (answerLines (source (now (start .entry)) (now (stop .entry)) (now (from .entry)) (now (answers .entry))) (now (name .entry)) row base answer) r (now (out .exit)) ⌝ }
 {
     if out.len() < at {
         return Laid::Part(at);
     }
     match answer {
-        Answer::Found(n, o) => {
-            put_found(out, at, n, base, name, start, stop, from, streams, rows)
-        }
+        Answer::Found(n, o) => { put_found(out, at, n, base, name, start, stop, from, answers) }
         Answer::Refused(x) => {
-            let put = lines::put_x(out, at, refusal_number(x), row);
+            let put = lines::put_x(out, at, measures::refusal_number(x), row);
             lines::only(put, at)
         }
         Answer::Ended(e) => {
@@ -188,7 +169,7 @@ fn put_answer(
 }
 
 // Gives a base to the run and writes its lines at a place of a lent buffer. The base has a row, and its chromosome a name; the other memory is
-// lent as to `Run::give`.
+// lent as to `sweep::give`.
 pub fn list_base(
     run: Run,
     base: Base,
@@ -198,35 +179,19 @@ pub fn list_base(
     start: &[u64],
     stop: &[u64],
     lengths: &[u64],
-    qstream: &mut [u64],
-    qrow: &mut [u64],
-    qstart: &mut [u64],
-    qstop: &mut [u64],
-    streams: &mut [u64],
-    rows: &mut [u64],
+    queue: &mut [[u64; 4]],
+    answers: &mut [[u64; 2]],
     out: &mut [u8],
     at: usize,
 ) -> Listed
     ensures { λ x. ⌜ Lists (cols (now (chrom .entry)) (now (start .entry)) (now (stop .entry))) (now (lengths .entry)) run base row (now (name .entry))
-        (lent (cells (now (qstream .entry)) (now (qrow .entry)) (now (qstart .entry)) (now (qstop .entry))) (now (streams .entry)) (now (rows .entry)))
+        (lent (now (queue .entry)) (now (answers .entry)))
         (now (out .entry)) at x
-        (lent (cells (now (qstream .exit)) (now (qrow .exit)) (now (qstart .exit)) (now (qstop .exit))) (now (streams .exit)) (now (rows .exit)))
+        (lent (now (queue .exit)) (now (answers .exit)))
         (now (out .exit)) ⌝ }
 {
     let from = run.from;
-    let given = run.give(
-        base,
-        chrom,
-        start,
-        stop,
-        lengths,
-        qstream,
-        qrow,
-        qstart,
-        qstop,
-        streams,
-        rows,
-    );
+    let given = sweep::give(run, base, chrom, start, stop, lengths, queue, answers);
     let after = given.run;
     let answer = given.answer;
     let lines = put_answer(
@@ -239,8 +204,7 @@ pub fn list_base(
         start,
         stop,
         &from,
-        streams,
-        rows,
+        answers,
     );
     Listed {
         run: after,

@@ -4,11 +4,11 @@ use mathlib.Core.Path.{_≡_, refl, sym, ap, _∙_}
 use mathlib.Core.List.{List, [], _∷_}
 use native.Mathlib.Omega.{arith}
 use lib.ListN.{length, getD, drop}
-use Rattle.text.specs.Number.{Read, good, bad, numberOf}
-use Rattle.text.specs.Scan.{lineAt, fieldAt, nextLine, numberAt, FieldTo}
-use Rattle.text.specs.declared.Number.the-variants.{Value, Bad}
-use Rattle.text.proofs.Lines.{further, field-to, fields-are, fields-none, fields-out, fields-tab, next-same, next-tab}
-use Rattle.text.proofs.Numbers.{number-bad, number-good, number-to}
+use Rattle.fields.specs.Number.{Read, good, bad, numberOf}
+use Rattle.fields.specs.Scan.{lineAt, fieldAt, nextLine, numberAt, FieldTo}
+use Rattle.fields.specs.declared.Number.the-variants.{Value, Bad}
+use Rattle.fields.proofs.Lines.{further, field-to, fields-are, fields-none, fields-out, fields-tab, next-same, next-tab}
+use Rattle.fields.proofs.Numbers.{number-bad, number-good, number-to}
 use Rattle.rows.specs.Row.{rowWith, rowNamed, rowFrom, rowOf}
 use Rattle.rows.specs.Read.{Names, Named, ReadsRow, gives, leads, ends, numbers}
 use Rattle.rows.specs.declared.Name.{Name}

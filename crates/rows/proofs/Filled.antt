@@ -7,12 +7,12 @@ use native.Mathlib.Omega.{arith}
 use lib.ListN.{length}
 use lib.Dec.{eqb}
 use borrow.Author.Tests.{eq-eqb, ne-eqb, eqb-true}
-use Rattle.text.specs.Number.{good, bad}
-use Rattle.text.specs.Names.{within, names, numberIn}
-use Rattle.text.specs.Table.{Found, refused, ends, readText}
-use Rattle.text.specs.Scan.{inField, lineAt, fieldAt, nextLine, FieldTo}
-use Rattle.text.proofs.Both.{and-left, and-right, and-no}
-use Rattle.text.proofs.Scan.{front-within}
+use Rattle.fields.specs.Number.{good, bad}
+use Rattle.fields.specs.Names.{within, names, numberIn}
+use Rattle.fields.specs.Table.{Found, refused, ends, readText}
+use Rattle.fields.specs.Scan.{inField, lineAt, fieldAt, nextLine, FieldTo}
+use Rattle.fields.proofs.Both.{and-left, and-right, and-no}
+use Rattle.fields.proofs.Scan.{front-within}
 use Rattle.rows.specs.Row.{rowOf, ready, rowsFound}
 use Rattle.rows.specs.Read as read
 use Rattle.rows.specs.Read.{ReadsRow, gives, leads, numbers}

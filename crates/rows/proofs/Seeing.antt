@@ -7,9 +7,9 @@ use native.Mathlib.Nat.{zero-add, add-zero}
 use native.Mathlib.Numerals.{add-one}
 use lib.ListN.{length, getD, take, drop, length-drop, length-append, take-append-drop}
 use lib.Seq.{take-suc, take-take, getD-drop, drop-drop, length-take-le}
-use Rattle.text.specs.Names.{part, numberIn}
-use Rattle.text.specs.Scan.{front, inField, fieldAt, FieldTo}
-use Rattle.text.proofs.Scan.{front-append, front-prefix, front-take, front-front}
+use Rattle.fields.specs.Names.{part, numberIn}
+use Rattle.fields.specs.Scan.{front, inField, fieldAt, FieldTo}
+use Rattle.fields.proofs.Scan.{front-append, front-prefix, front-take, front-front}
 use Rattle.rows.specs.Read.{Knows, Names}
 use Rattle.rows.specs.declared.Seen.{Seen}
 use Rattle.rows.specs.declared.Name.{Name}

@@ -3,9 +3,9 @@ use Prim.Native.Nat.{ℕ, _+_, _≤_, _<_}
 use mathlib.Core.Path.{_≡_}
 use mathlib.Core.List.{List}
 use lib.ListN.{length, getD}
-use Rattle.text.specs.Number.{Read, good, bad}
-use Rattle.text.specs.Names.{part, numberIn}
-use Rattle.text.specs.Scan.{front, inField, lineAt, fieldAt, nextLine, FieldTo}
+use Rattle.fields.specs.Number.{Read, good, bad}
+use Rattle.fields.specs.Names.{part, numberIn}
+use Rattle.fields.specs.Scan.{front, inField, lineAt, fieldAt, nextLine, FieldTo}
 use Rattle.rows.specs.Row.{rowOf}
 use Rattle.rows.specs.declared.Row.{Row}
 use Rattle.rows.specs.declared.Seen.{Seen}

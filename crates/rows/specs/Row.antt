@@ -4,10 +4,10 @@ use mathlib.Core.List.{List, [], _∷_}
 use mathlib.Core.Bool.{Bool, _&&_}
 use lib.ListN.{length}
 use lib.Dec.{eqb}
-use Rattle.text.specs.Cut.{fields}
-use Rattle.text.specs.Number.{Read, good, bad, numberOf}
-use Rattle.text.specs.Names.{within, names, numberIn}
-use Rattle.text.specs.Table.{Found, readText, tested}
+use Rattle.fields.specs.Cut.{fields}
+use Rattle.fields.specs.Number.{Read, good, bad, numberOf}
+use Rattle.fields.specs.Names.{within, names, numberIn}
+use Rattle.fields.specs.Table.{Found, readText, tested}
 use Rattle.rows.specs.declared.Row.{Row}
 
 -- "or a bad number is 11"

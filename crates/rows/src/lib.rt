@@ -4,14 +4,14 @@ ghost use mathlib.Core.Bool.{true};
 ghost use mathlib.Core.List.{[]};
 ghost use Prim.Native.Nat.{_+_, _≤_, _<_};
 ghost use lib.ListN.{length, getD, take, drop};
-ghost use Rattle.text.specs.Names.{within, names, numberIn};
-ghost use Rattle.text.specs.Scan.{FieldTo, numberAt, fieldAt};
-ghost use Rattle.text.specs.Table.{Fills};
-ghost use Rattle.text.specs.declared.Number.the-variants.{Value};
+ghost use Rattle.fields.specs.Names.{within, names, numberIn};
+ghost use Rattle.fields.specs.Scan.{FieldTo, numberAt, fieldAt};
+ghost use Rattle.fields.specs.Table.{Fills};
+ghost use Rattle.fields.specs.declared.Number.the-variants.{Value};
 ghost use Rattle.rows.specs.Row.{ready, rowsFound, chromOf, startOf, stopOf};
 ghost use Rattle.rows.specs.Read.{Knows, Names, Named, ReadsRow};
-use text::Number;
-use text::Reading;
+use fields::Number;
+use fields::Reading;
 
 // A row: the number of its chromosome, its start and its stop.
 pub struct Row {
@@ -63,7 +63,7 @@ fn unseen(list: &[u8], from: &[usize], to: &[usize]) -> Seen
     requires { ⌜ within (length (now list)) (now from) (now to) ≡ true ⌝ }
     ensures { λ r. ⌜ (r .from ≡ 0) × (r .to ≡ 0) × (r .chrom ≡ numberIn (names (now (list .entry)) (now (from .entry)) (now (to .entry))) []) ⌝ }
 {
-    let k = text::find_in(list, from, to, 0, &list[0..0]);
+    let k = fields::find_in(list, from, to, 0, &list[0..0]);
     Seen {
         from: 0,
         to: 0,
@@ -76,7 +76,7 @@ fn looked_up(text: &[u8], at: usize, a: usize, list: &[u8], from: &[usize], to: 
     requires { ⌜ FieldTo (now text) at a × (within (length (now list)) (now from) (now to) ≡ true) ⌝ }
     ensures { λ r. ⌜ Names (now (text .entry)) (names (now (list .entry)) (now (from .entry)) (now (to .entry))) at r ⌝ }
 {
-    let k = text::find_in(list, from, to, 0, &text[at..a]);
+    let k = fields::find_in(list, from, to, 0, &text[at..a]);
     Name {
         to: a,
         chrom: k as u64,
@@ -91,10 +91,10 @@ fn name_at(text: &[u8], at: usize, seen: Seen, list: &[u8], from: &[usize], to: 
 {
     let f = seen.from;
     let size = seen.to - f;
-    let n = text::least(size, text.len() - at);
+    let n = fields::least(size, text.len() - at);
     let k = agree(text, f, at, n);
     let p = at + k;
-    let a = text::field_end(text, p);
+    let a = fields::field_end(text, p);
     if k < size {
         return looked_up(text, at, a, list, from, to);
     }
@@ -112,12 +112,12 @@ fn stop_at(text: &[u8], at: usize, a: usize, b: usize, chrom: u64, start: u64) -
     requires { ⌜ Named (now text) at a × (numberAt (now text) (a + 1) ≡ Value start b) × (b < length (now text)) × (getD (now text) b 0 ≡ 9) ⌝ }
     ensures { λ r. ⌜ ReadsRow (now (text .entry)) (λ _. chrom) at r ⌝ }
 {
-    let n = text::number_at(text, b + 1);
+    let n = fields::number_at(text, b + 1);
     match n {
         Number::Bad => Line::Not,
         Number::Value(stop, e) => {
             let row = Row { chrom, start, stop };
-            Line::Is(row, a, text::next_line(text, e))
+            Line::Is(row, a, fields::next_line(text, e))
         }
     }
 }
@@ -127,7 +127,7 @@ fn start_at(text: &[u8], at: usize, a: usize, chrom: u64) -> Line
     requires { ⌜ Named (now text) at a ⌝ }
     ensures { λ r. ⌜ ReadsRow (now (text .entry)) (λ _. chrom) at r ⌝ }
 {
-    let n = text::number_at(text, a + 1);
+    let n = fields::number_at(text, a + 1);
     match n {
         Number::Bad => Line::Not,
         Number::Value(start, b) => {
@@ -171,7 +171,7 @@ fn is_ready(a: usize, b: usize, c: usize, list: &[u8], from: &[usize], to: &[usi
     if c != a {
         return false;
     }
-    text::all_within(list.len(), from, to)
+    fields::all_within(list.len(), from, to)
 }
 
 // Reads BED text to three columns: chromosome number, start and stop. The list is its text and, for each name, where it starts
@@ -197,7 +197,7 @@ pub fn read_rows(
     let mut n: usize = 0;
     let mut at: usize = 0;
     while at < end {
-        let p = text::past(text, at);
+        let p = fields::past(text, at);
         if at < p {
             at = p;
             continue;

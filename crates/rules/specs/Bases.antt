@@ -5,7 +5,7 @@ use mathlib.Core.List.{List}
 use Prim.Native.Nat.{ℕ}
 use lib.Dec.{ltb, leb}
 use lib.ListN.{length, getD}
-use Rattle.lists.specs.Lex.{lex}
+use Rattle.basics.specs.Lex.{lex}
 use Rattle.rules.specs.declared.Base.{Base}
 use Rattle.rules.specs.declared.Refusal.{Refusal}
 use Rattle.rules.specs.declared.Refusal.the-variants.{Beyond, Unlisted, Unordered, Reversed}

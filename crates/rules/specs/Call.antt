@@ -5,7 +5,7 @@ use mathlib.Core.List.{List, [], _∷_, _++_, map}
 use Prim.Native.Nat.{ℕ}
 use lib.Dec.{ltb}
 use lib.ListN.{length, drop}
-use Rattle.lists.specs.Lists.{filter}
+use Rattle.basics.specs.Lists.{filter}
 use Rattle.rules.specs.declared.Row.{Row}
 use Rattle.rules.specs.declared.Base.{Base}
 use Rattle.rules.specs.declared.Offer.{Offer}
@@ -56,7 +56,7 @@ rowsOf (refused x) = []
 rowsOf (ended e) = []
 
 -- "On success the first n answer rows hold stream and row number; the others stay.": an answer column after a reply, `old` ahead of it
-abbrev pub column : (Record → ℕ) → Reply → List ℕ → List ℕ
+abbrev pub column : {A : Type 0} → (Record → A) → Reply → List A → List A
 column part r old = map part (rowsOf r) ++ drop (length (rowsOf r)) old
 
 -- the run after a call, and what the base got

@@ -7,7 +7,7 @@ use mathlib.Core.List.{List, [], _∷_, _++_}
 use Prim.Native.Nat.{ℕ, _≤_}
 use lib.Dec.{eqb, ltb}
 use lib.ListN.{length, getD}
-use Rattle.lists.specs.Lists.{some?, filter, head?, All, Pairs}
+use Rattle.basics.specs.Lists.{some?, filter, head?, All, Pairs}
 use Rattle.rules.specs.declared.Base.{Base}
 use Rattle.rules.specs.declared.Offer.the-variants.{Nothing}
 use Rattle.rules.specs.declared.Refusal.the-variants.{Sizes}

@@ -2,7 +2,7 @@
 use mathlib.Core.Bool.{Bool, true, false, cond}
 use mathlib.Core.List.{List, [], _∷_}
 use Prim.Native.Nat.{ℕ, zero, suc}
-use Rattle.lists.specs.Lists.{total}
+use Rattle.basics.specs.Lists.{total}
 
 -- the least head, what follows it in its list, and the lists with it taken off; or there is none
 pub data Pick (A : Type 0) : Type 0 where

@@ -4,8 +4,8 @@ use mathlib.Core.Option.{Option, none, some}
 use mathlib.Core.List.{List}
 use Prim.Native.Nat.{ℕ, _-_}
 use lib.Dec.{ltb, leb}
-use Rattle.lists.specs.Lists.{first}
-use Rattle.lists.specs.Lex.{lex}
+use Rattle.basics.specs.Lists.{first}
+use Rattle.basics.specs.Lex.{lex}
 use Rattle.rules.specs.declared.Base.{Base}
 use Rattle.rules.specs.declared.Place.{Place}
 use Rattle.rules.specs.declared.Offer.{Offer}

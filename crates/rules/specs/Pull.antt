@@ -5,7 +5,7 @@ use mathlib.Core.List.{List, [], _∷_, _++_}
 use Prim.Native.Nat.{ℕ, zero, suc}
 use lib.Dec.{leb}
 use lib.ListN.{length}
-use Rattle.lists.specs.Lists.{total}
+use Rattle.basics.specs.Lists.{total}
 use Rattle.rules.specs.Merge.{Pick, pick}
 
 -- where a pull stops: what is left of each stream and what is queued; or why the run has ended

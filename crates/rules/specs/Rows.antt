@@ -4,7 +4,7 @@ use mathlib.Core.Option.{Option, none, some}
 use mathlib.Core.List.{List, [], _∷_}
 use Prim.Native.Nat.{ℕ, suc}
 use lib.Dec.{ltb, leb}
-use Rattle.lists.specs.Lex.{lex}
+use Rattle.basics.specs.Lex.{lex}
 use Rattle.rules.specs.declared.Stream.{Stream}
 use Rattle.rules.specs.declared.Row.{Row}
 use Rattle.rules.specs.declared.End.{End}

@@ -5,7 +5,8 @@ use mathlib.Core.List.{List, [], _∷_}
 use Prim.Native.Nat.{ℕ}
 use lib.Dec.{leb, eqb}
 use lib.ListN.{length}
-use Rattle.lists.specs.Lists.{any}
+use Rattle.basics.specs.Lists.{any}
+use Rattle.rules.specs.declared.Settings.{Settings}
 use Rattle.rules.specs.declared.Unbegun.{Unbegun}
 use Rattle.rules.specs.declared.Unbegun.the-variants.{Sizes, Names}
 
@@ -14,8 +15,8 @@ abbrev pub within : ℕ → ℕ → ℕ → Bool
 within low high x = leb low x && leb x high
 
 -- "1 to 8 streams. 1 to 256 chromosomes [..]. Queue room Q from 1 to 65,536."
-abbrev pub sized : ℕ → ℕ → ℕ → Bool
-sized streams chroms room = within 1 8 streams && (within 1 256 chroms && within 1 65536 room)
+abbrev pub sized : Settings → Bool
+sized s = within 1 8 (s .streams) && (within 1 256 (s .chroms) && within 1 65536 (s .room))
 
 -- two names, byte by byte
 abbrev pub same : List ℕ → List ℕ → Bool
@@ -29,6 +30,6 @@ abbrev pub misnamed : List (List ℕ) → Bool
 misnamed [] = false
 misnamed (n ∷ ns) = not (within 1 255 (length n)) || (any (same n) ns || misnamed ns)
 
--- "At a start: 1, then 2."
-unfoldable pub refusesStart : ℕ → List (List ℕ) → ℕ → Option Unbegun
-refusesStart streams names room = cond (sized streams (length names) room) (cond (misnamed names) (some Names) none) (some Sizes)
+-- "At a start: 1, then 2.", of what a run has fixed from its start and the chromosomes' names
+unfoldable pub refusesStart : Settings → List (List ℕ) → Option Unbegun
+refusesStart s names = cond (sized s) (cond (misnamed names) (some Names) none) (some Sizes)

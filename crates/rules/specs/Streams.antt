@@ -4,8 +4,8 @@ use mathlib.Core.Option.{Option, none, some}
 use mathlib.Core.List.{List, [], _∷_, map}
 use Prim.Native.Nat.{ℕ}
 use lib.Dec.{leb}
-use Rattle.lists.specs.Lists.{some?}
-use Rattle.lists.specs.Lex.{lex}
+use Rattle.basics.specs.Lists.{some?}
+use Rattle.basics.specs.Lex.{lex}
 use Rattle.rules.specs.declared.Row.{Row}
 use Rattle.rules.specs.declared.End.{End}
 use Rattle.rules.specs.Rows.{Record, numbered, fault}

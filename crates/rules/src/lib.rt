@@ -25,6 +25,25 @@ pub struct Place {
     pub stop: u64,
 }
 
+// What a run has fixed from its start: how many streams and chromosomes there are, and the queue's room.
+#[repr(C)]
+pub struct Settings {
+    pub streams: usize,
+    pub chroms: usize,
+    pub room: usize,
+}
+
+impl Settings {
+    // "1 to 8 streams."
+    pub const STREAMS: usize = 8;
+
+    // "1 to 256 chromosomes"
+    pub const CHROMS: usize = 256;
+
+    // "Queue room Q from 1 to 65,536."
+    pub const ROOM: usize = 65536;
+}
+
 // What is offered after a base.
 pub enum Offer {
     Nothing,

@@ -1,5 +1,2 @@
--- What the sweep's proofs cite.
-pub mod ViewLaws
-pub mod Giving
-pub mod Starting
-pub mod StartLaws
+-- One base as many.
+pub mod Single

@@ -11,7 +11,7 @@ use rules::Stream;
 ghost use mathlib.Core.Path.{_≡_};
 ghost use Prim.Native.Nat.{_≤_, _<_};
 ghost use lib.ListN.{length};
-ghost use Rattle.queue.specs.Ring.{cells, Fair};
+ghost use Rattle.queue.specs.Ring.{Fair};
 ghost use Rattle.tests_queue.specs.Ready.{Ready};
 
 // A push: 0, stream, row, start, stop. A base: 1, chromosome, start, stop.
@@ -56,8 +56,8 @@ fn show_record(stream: u64, row: u64, start: u64, stop: u64) {
 }
 
 // What waits, the oldest first.
-fn show_waiting(ring: Ring, stream: &[u64], row: &[u64], start: &[u64], stop: &[u64])
-    requires { ⌜ Fair ring (cells (now stream) (now row) (now start) (now stop)) ⌝ }
+fn show_waiting(ring: Ring, queue: &[[u64; 4]])
+    requires { ⌜ Fair ring (now queue) ⌝ }
 {
     let head = ring.head;
     let len = ring.len;
@@ -65,27 +65,29 @@ fn show_waiting(ring: Ring, stream: &[u64], row: &[u64], start: &[u64], stop: &[
     let mut k: usize = 0;
     while k < len {
         let at = queue::place_of(head, room, k);
-        show_record(stream[at], row[at], start[at], stop[at]);
+        let x = queue[at];
+        show_record(x[0], x[1], x[2], x[3]);
         k += 1;
     }
 }
 
 // The end of a line: a bar and what waits.
-fn show(ring: Ring, stream: &[u64], row: &[u64], start: &[u64], stop: &[u64])
-    requires { ⌜ Fair ring (cells (now stream) (now row) (now start) (now stop)) ⌝ }
+fn show(ring: Ring, queue: &[[u64; 4]])
+    requires { ⌜ Fair ring (now queue) ⌝ }
 {
     io::write_all(STDOUT_FILENO, b" |");
-    show_waiting(ring, stream, row, start, stop);
+    show_waiting(ring, queue);
     io::write_all(STDOUT_FILENO, b"\n");
 }
 
 // The first n answer rows.
-fn show_hits(n: usize, streams: &[u64], rows: &[u64])
-    requires { ⌜ (n ≤ length (now streams)) × (n ≤ length (now rows)) ⌝ }
+fn show_hits(n: usize, answers: &[[u64; 2]])
+    requires { ⌜ n ≤ length (now answers) ⌝ }
 {
     let mut i: usize = 0;
     while i < n {
-        show_hit(streams[i], rows[i]);
+        let x = answers[i];
+        show_hit(x[0], x[1]);
         i += 1;
     }
 }
@@ -129,68 +131,43 @@ fn show_room(room: usize) {
 }
 
 // One record is pushed.
-fn push_step(
-    ring: Ring,
-    stream: &mut [u64],
-    row: &mut [u64],
-    start: &mut [u64],
-    stop: &mut [u64],
-    slot: Slot,
-) -> Ring
-    requires { ⌜ Fair ring (cells (now stream) (now row) (now start) (now stop)) ⌝ }
-    ensures { λ r. ⌜ Fair r (cells (now (stream .exit)) (now (row .exit)) (now (start .exit)) (now (stop .exit))) × (r .room ≡ ring .room) ⌝ }
+fn push_step(ring: Ring, queue: &mut [[u64; 4]], slot: Slot) -> Ring
+    requires { ⌜ Fair ring (now queue) ⌝ }
+    ensures { λ r. ⌜ Fair r (now (queue .exit)) × (r .room ≡ ring .room) ⌝ }
 {
     show_push(slot);
-    let pushed = ring.push(stream, row, start, stop, slot);
+    let pushed = ring.push(queue, slot);
     match pushed {
         Pushed::Done(after) => {
-            show(after, stream, row, start, stop);
+            show(after, queue);
             after
         }
         Pushed::Full => {
             io::write_all(STDOUT_FILENO, b" full");
-            show(ring, stream, row, start, stop);
+            show(ring, queue);
             ring
         }
     }
 }
 
 // A base comes: the queue is cleared for it and its records are written.
-fn base_step(
-    ring: Ring,
-    stream: &mut [u64],
-    row: &mut [u64],
-    start: &mut [u64],
-    stop: &mut [u64],
-    streams: &mut [u64],
-    rows: &mut [u64],
-    b: Base,
-) -> Ring
-    requires { ⌜ Ready ring (cells (now stream) (now row) (now start) (now stop)) (now streams) (now rows) ⌝ }
-    ensures { λ r. ⌜ Fair r (cells (now (stream .exit)) (now (row .exit)) (now (start .exit)) (now (stop .exit))) × (r .room ≡ ring .room) ⌝ }
+fn base_step(ring: Ring, queue: &mut [[u64; 4]], answers: &mut [[u64; 2]], b: Base) -> Ring
+    requires { ⌜ Ready ring (now queue) (now answers) ⌝ }
+    ensures { λ r. ⌜ Fair r (now (queue .exit)) × (r .room ≡ ring .room) ⌝ }
 {
     show_base(b);
-    let after = ring.clear(stream, row, start, stop, b);
-    let n = after.scan(stream, row, start, stop, b, streams, rows);
-    show_hits(n, streams, rows);
-    show_front(after.front(start));
-    show(after, stream, row, start, stop);
+    let after = ring.clear(queue, b);
+    let n = after.scan(queue, b, answers);
+    show_hits(n, answers);
+    show_front(after.front(queue));
+    show(after, queue);
     after
 }
 
 // One step of the table.
-fn play(
-    ring: Ring,
-    stream: &mut [u64],
-    row: &mut [u64],
-    start: &mut [u64],
-    stop: &mut [u64],
-    streams: &mut [u64],
-    rows: &mut [u64],
-    step: [u64; 5],
-) -> Ring
-    requires { ⌜ Ready ring (cells (now stream) (now row) (now start) (now stop)) (now streams) (now rows) ⌝ }
-    ensures { λ r. ⌜ Fair r (cells (now (stream .exit)) (now (row .exit)) (now (start .exit)) (now (stop .exit))) × (r .room ≡ ring .room) ⌝ }
+fn play(ring: Ring, queue: &mut [[u64; 4]], answers: &mut [[u64; 2]], step: [u64; 5]) -> Ring
+    requires { ⌜ Ready ring (now queue) (now answers) ⌝ }
+    ensures { λ r. ⌜ Fair r (now (queue .exit)) × (r .room ≡ ring .room) ⌝ }
 {
     if step[0] == 0 {
         let slot = Slot {
@@ -199,67 +176,36 @@ fn play(
             start: step[3],
             stop: step[4],
         };
-        return push_step(ring, stream, row, start, stop, slot);
+        return push_step(ring, queue, slot);
     }
     let b = Base {
         chrom: Chrom(step[1]),
         start: step[2],
         stop: step[3],
     };
-    base_step(ring, stream, row, start, stop, streams, rows, b)
+    base_step(ring, queue, answers, b)
 }
 
 // All steps, over a ring with as many slots as were lent.
-fn drive(
-    stream: &mut [u64],
-    row: &mut [u64],
-    start: &mut [u64],
-    stop: &mut [u64],
-    streams: &mut [u64],
-    rows: &mut [u64],
-)
-    requires { ⌜ (0 < length (now stream)) × (length (now stream) ≤ 65536) ⌝ }
-    requires { ⌜ (length (now row) ≡ length (now stream)) × (length (now start) ≡ length (now stream)) × (length (now stop) ≡ length (now stream)) ⌝ }
-    requires { ⌜ (length (now streams) ≡ length (now stream)) × (length (now rows) ≡ length (now stream)) ⌝ }
+fn drive(queue: &mut [[u64; 4]], answers: &mut [[u64; 2]])
+    requires { ⌜ (0 < length (now queue)) × (length (now queue) ≤ 65536) × (length (now answers) ≡ length (now queue)) ⌝ }
 {
-    let room = stream.len();
+    let room = queue.len();
     show_room(room);
     let mut ring = Ring::empty(room, Chrom(0));
     let mut i: usize = 0;
     while i < 20 {
         let step = STEPS[i];
-        ring = play(ring, stream, row, start, stop, streams, rows, step);
+        ring = play(ring, queue, answers, step);
         i += 1;
     }
 }
 
 fn main() {
-    let mut stream = [0u64; 3];
-    let mut row = [0u64; 3];
-    let mut start = [0u64; 3];
-    let mut stop = [0u64; 3];
-    let mut streams = [0u64; 3];
-    let mut rows = [0u64; 3];
-    drive(
-        &mut stream,
-        &mut row,
-        &mut start,
-        &mut stop,
-        &mut streams,
-        &mut rows,
-    );
-    let mut one = [0u64; 1];
-    let mut two = [0u64; 1];
-    let mut three = [0u64; 1];
-    let mut four = [0u64; 1];
-    let mut five = [0u64; 1];
-    let mut six = [0u64; 1];
-    drive(
-        &mut one,
-        &mut two,
-        &mut three,
-        &mut four,
-        &mut five,
-        &mut six,
-    );
+    let mut queue = [[0u64; 4]; 3];
+    let mut answers = [[0u64; 2]; 3];
+    drive(&mut queue, &mut answers);
+    let mut slot = [[0u64; 4]; 1];
+    let mut row = [[0u64; 2]; 1];
+    drive(&mut slot, &mut row);
 }

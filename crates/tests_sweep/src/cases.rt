@@ -7,10 +7,11 @@ use crate::given;
 use crate::tamper;
 use rules::Base;
 use rules::Chrom;
-use rules::Stage;
-use sweep::Run;
+use rules::Settings;
+use runs::Mark;
+use runs::Run;
 
-// Where the memory of the second run begins in the queue's columns.
+// Where the memory of the second run begins in the queue's slots.
 const SECOND: usize = 65537;
 
 // The streams' ranges in the columns, the rows that are laid and how many were laid before the last line, the number of chromosomes, and where
@@ -27,14 +28,14 @@ pub struct Plan {
     pub odd_to: usize,
 }
 
-// A run, and how many slots of each column are lent to it: chromosomes, starts and stops of the rows, the chromosomes' lengths, the queue's
-// four, the answer's two, where the names begin and end.
+// A run, and how much is lent to it: chromosomes, starts and stops of the rows, the chromosomes' lengths, the queue's slots, the answer rows,
+// where the names begin and end.
 pub struct Side {
     pub run: Run,
-    pub lens: [usize; 12],
+    pub lens: [usize; 8],
 }
 
-// What a case has: the run in use, the other one, and where the memory of the one in use begins in the queue's columns.
+// What a case has: the run in use, the other one, and where the memory of the one in use begins in the queue's slots.
 pub struct Bench {
     pub plan: Plan,
     pub here: Side,
@@ -64,26 +65,38 @@ fn row_count(n: u64) -> usize
 
 // No run.
 fn no_run() -> Run {
+    let fixed = Settings {
+        streams: 0,
+        chroms: 0,
+        room: 0,
+    };
+    let mark = Mark {
+        kind: 0,
+        first: 0,
+        second: 0,
+        third: 0,
+    };
     Run {
         chrom: [0; 8],
         start: [0; 8],
         stop: [0; 8],
         row: [0; 8],
-        ended: [true; 8],
+        ended: [1; 8],
         next: [0; 8],
         from: [0; 8],
         to: [0; 8],
-        streams: 0,
-        chroms: 0,
-        ring: queue::Ring::empty(0, Chrom(0)),
-        stage: Stage::Fresh,
+        settings: fixed,
+        head: 0,
+        len: 0,
+        place: 0,
+        mark: mark,
     }
 }
 
 fn no_side() -> Side {
     Side {
         run: no_run(),
-        lens: [0; 12],
+        lens: [0; 8],
     }
 }
 
@@ -183,25 +196,25 @@ impl Plan {
 }
 
 // As many slots as a room asks, and one answer row more.
-fn lens_for(p: Plan, room: usize) -> [usize; 12]
+fn lens_for(p: Plan, room: usize) -> [usize; 8]
     requires { ⌜ room ≤ 65537 ⌝ }
 {
     let n = p.rows;
     let k = p.chroms;
-    [n, n, n, k, room, room, room, room, room + 1, room + 1, k, k]
+    [n, n, n, k, room, room + 1, k, k]
 }
 
-// One column with another number of slots.
-fn with_len(lens: [usize; 12], k: usize, n: usize) -> [usize; 12] {
+// One slice of another length.
+fn with_len(lens: [usize; 8], k: usize, n: usize) -> [usize; 8] {
     let mut ls = lens;
-    if k < 12 {
+    if k < 8 {
         ls[k] = n;
     }
     ls
 }
 
 // What is lent after a line.
-fn lens_after(lens: [usize; 12], p: Plan, l: Line) -> [usize; 12] {
+fn lens_after(lens: [usize; 8], p: Plan, l: Line) -> [usize; 8] {
     let a = small(l.a);
     let b = small(l.b);
     let letter = l.letter;
@@ -248,14 +261,7 @@ pub fn put_rows(
 }
 
 // A slot of the queue is written.
-pub fn put_slot(
-    l: Line,
-    b: Bench,
-    qstream: &mut [u64; QUEUES],
-    qrow: &mut [u64; QUEUES],
-    qstart: &mut [u64; QUEUES],
-    qstop: &mut [u64; QUEUES],
-) {
+pub fn put_slot(l: Line, b: Bench, queue: &mut [[u64; 4]; QUEUES]) {
     let memory = b.memory;
     if l.letter != b'q' {
         return;
@@ -264,10 +270,10 @@ pub fn put_slot(
         return;
     }
     let at = memory + small(l.a);
-    write(qstream, at, l.b);
-    write(qrow, at, l.c);
-    write(qstart, at, l.d);
-    write(qstop, at, l.e);
+    let x = [l.b, l.c, l.d, l.e];
+    if at < QUEUES {
+        queue[at] = x;
+    }
 }
 
 // Whether a line lets a run begin.
@@ -358,10 +364,7 @@ impl Bench {
         chrom: &[u64; SLOTS],
         start: &[u64; SLOTS],
         stop: &[u64; SLOTS],
-        qstream: &mut [u64; QUEUES],
-        qrow: &mut [u64; QUEUES],
-        qstart: &mut [u64; QUEUES],
-        qstop: &mut [u64; QUEUES],
+        queue: &mut [[u64; 4]; QUEUES],
     ) -> Bench {
         let plan = self.plan;
         let side = self.here;
@@ -374,19 +377,7 @@ impl Bench {
                 start: l.b,
                 stop: l.c,
             };
-            return self.with_run(given::give(
-                run,
-                lens,
-                b,
-                self.memory,
-                chrom,
-                start,
-                stop,
-                qstream,
-                qrow,
-                qstart,
-                qstop,
-            ));
+            return self.with_run(given::give(run, lens, b, self.memory, chrom, start, stop, queue));
         }
         if is_start(letter) {
             return self.with_run(given::begin(plan, l.a as usize, lens, chrom, start, stop));

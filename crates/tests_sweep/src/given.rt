@@ -3,26 +3,34 @@ use crate::SLOTS;
 use crate::cases::Plan;
 use crate::put;
 use crate::say;
-use harness::at;
-use harness::front;
-use harness::more;
-use harness::name_ends;
-use harness::name_starts;
-use harness::name_text;
-use harness::part;
-use harness::places;
 use rules::Answer;
 use rules::Base;
 use rules::End;
 use rules::Offer;
-use rules::Refusal;
+use rules::Settings;
 use rules::Unbegun;
-use sweep::Begins;
-use sweep::Given;
-use sweep::Run;
+use runs::Begins;
+use runs::Given;
+use runs::Run;
+use tests_shared::answer_rows;
+use tests_shared::front;
+use tests_shared::more;
+use tests_shared::name_ends;
+use tests_shared::name_starts;
+use tests_shared::name_text;
+use tests_shared::places;
+use tests_shared::row_at;
+use tests_shared::slots;
+use tests_shared::stream_at;
 
 // What stands in an answer row before a base.
 const MARK: u64 = 7777777;
+
+// How many streams and how many row numbers of the answer rows are as they were.
+struct Kept {
+    streams: u64,
+    rows: u64,
+}
 
 // A stream and a row of it.
 fn show_pair(stream: u64, row: u64) {
@@ -33,37 +41,45 @@ fn show_pair(stream: u64, row: u64) {
 }
 
 // The first answer rows of n, sixteen at most.
-fn show_first(n: usize, streams: &[u64], rows: &[u64]) {
+fn show_first(n: usize, answers: &[[u64; 2]]) {
     let mut i: usize = 0;
     while i < n {
         if i == 16 {
             return;
         }
-        show_pair(at(streams, i), at(rows, i));
+        show_pair(stream_at(answers, i), row_at(answers, i));
         i += 1;
     }
 }
 
 // The n answer rows, of more than sixteen those and the last.
-fn show_rows(n: usize, streams: &[u64], rows: &[u64]) {
-    show_first(n, streams, rows);
+fn show_rows(n: usize, answers: &[[u64; 2]]) {
+    show_first(n, answers);
     if 16 < n {
         put(b" ..");
-        show_pair(at(streams, n - 1), at(rows, n - 1));
+        show_pair(stream_at(answers, n - 1), row_at(answers, n - 1));
     }
 }
 
-// How many slots of an answer column, from one place up to another, are as they were.
-fn marks(s: &[u64], from: usize, to: usize) -> u64 {
-    let mut count: u64 = 0;
+// One more where a number is as it was.
+fn counted(count: u64, x: u64) -> u64 {
+    if x == MARK { more(count) } else { count }
+}
+
+// How many streams and how many row numbers of the answer rows, from one place up to another, are as they were.
+fn marks(answers: &[[u64; 2]], from: usize, to: usize) -> Kept {
+    let mut streams: u64 = 0;
+    let mut rows: u64 = 0;
     let mut i = from;
     while i < to {
-        if at(s, i) == MARK {
-            count = more(count);
-        }
+        streams = counted(streams, stream_at(answers, i));
+        rows = counted(rows, row_at(answers, i));
         i += 1;
     }
-    count
+    Kept {
+        streams: streams,
+        rows: rows,
+    }
 }
 
 // The place offered.
@@ -77,17 +93,6 @@ fn show_offer(o: Offer) {
             put(b" ");
             say(p.stop);
         }
-    }
-}
-
-// The number of a refusal.
-fn refusal_number(x: Refusal) -> u64 {
-    match x {
-        Refusal::Sizes => 1,
-        Refusal::Beyond => 3,
-        Refusal::Unlisted => 4,
-        Refusal::Unordered => 5,
-        Refusal::Reversed => 6,
     }
 }
 
@@ -107,27 +112,28 @@ fn show_end(e: End) {
     }
 }
 
-// How many slots of each answer column behind the first n are as they were, of those that were lent.
-fn show_kept(n: usize, lens: [usize; 12], streams: &[u64], rows: &[u64]) {
+// What is as it was in the answer rows behind the first n, of those that were lent.
+fn show_kept(n: usize, lens: [usize; 8], answers: &[[u64; 2]]) {
+    let m = marks(answers, n, lens[5]);
     put(b", kept ");
-    say(marks(streams, n, lens[8]));
+    say(m.streams);
     put(b"/");
-    say(marks(rows, n, lens[9]));
+    say(m.rows);
 }
 
 // What a base got: how many answer rows, the rest by its number.
-fn show_answer(a: Answer, streams: &[u64], rows: &[u64]) -> usize {
+fn show_answer(a: Answer, answers: &[[u64; 2]]) -> usize {
     match a {
         Answer::Found(n, o) => {
             put(b": found ");
             say(n as u64);
-            show_rows(n, streams, rows);
+            show_rows(n, answers);
             show_offer(o);
             n
         }
         Answer::Refused(x) => {
             put(b": refused ");
-            say(refusal_number(x));
+            say(measures::refusal_number(x));
             0
         }
         Answer::Ended(e) => {
@@ -138,61 +144,50 @@ fn show_answer(a: Answer, streams: &[u64], rows: &[u64]) -> usize {
     }
 }
 
-// What a base got, and what it left of the answer columns.
-fn show(a: Answer, lens: [usize; 12], streams: &[u64; SLOTS], rows: &[u64; SLOTS]) {
-    let n = show_answer(a, streams, rows);
-    show_kept(n, lens, streams, rows);
+// What a base got, and what it left of the answer rows.
+fn show(a: Answer, lens: [usize; 8], answers: &[[u64; 2]; SLOTS]) {
+    let n = show_answer(a, answers);
+    show_kept(n, lens, answers);
 }
 
-// A base is given to a run, with the slots of the queue's columns from a place on.
+// A base is given to a run, with the queue's slots from a place on.
 fn give_part(
     run: Run,
-    lens: [usize; 12],
+    lens: [usize; 8],
     b: Base,
     memory: usize,
     chrom: &[u64],
     start: &[u64],
     stop: &[u64],
     lengths: &[u64],
-    qstream: &mut [u64],
-    qrow: &mut [u64],
-    qstart: &mut [u64],
-    qstop: &mut [u64],
-    streams: &mut [u64],
-    rows: &mut [u64],
+    queue: &mut [[u64; 4]],
+    answers: &mut [[u64; 2]],
 ) -> Given {
-    run.give(
+    sweep::give(
+        run,
         b,
         chrom,
         start,
         stop,
         lengths,
-        part(qstream, memory, lens[4]),
-        part(qrow, memory, lens[5]),
-        part(qstart, memory, lens[6]),
-        part(qstop, memory, lens[7]),
-        streams,
-        rows,
+        slots(queue, memory, lens[4]),
+        answers,
     )
 }
 
-// A base is given to a run, with so many slots of the answer columns, and what it got is written.
+// A base is given to a run, with so many answer rows, and what it got is written.
 fn give_marked(
     run: Run,
-    lens: [usize; 12],
+    lens: [usize; 8],
     b: Base,
     memory: usize,
     chrom: &[u64],
     start: &[u64],
     stop: &[u64],
     lengths: &[u64],
-    qstream: &mut [u64],
-    qrow: &mut [u64],
-    qstart: &mut [u64],
-    qstop: &mut [u64],
+    queue: &mut [[u64; 4]],
 ) -> Run {
-    let mut streams = [MARK; SLOTS];
-    let mut rows = [MARK; SLOTS];
+    let mut answers = [[MARK; 2]; SLOTS];
     let g = give_part(
         run,
         lens,
@@ -202,31 +197,24 @@ fn give_marked(
         start,
         stop,
         lengths,
-        qstream,
-        qrow,
-        qstart,
-        qstop,
-        part(&mut streams, 0, lens[8]),
-        part(&mut rows, 0, lens[9]),
+        queue,
+        answer_rows(&mut answers, lens[5]),
     );
     let answer = g.answer;
-    show(answer, lens, &streams, &rows);
+    show(answer, lens, &answers);
     g.run
 }
 
-// A base is given to a run, with so many slots of each column.
+// A base is given to a run, with as much of each slice as is lent.
 pub fn give(
     run: Run,
-    lens: [usize; 12],
+    lens: [usize; 8],
     b: Base,
     memory: usize,
     chrom: &[u64],
     start: &[u64],
     stop: &[u64],
-    qstream: &mut [u64],
-    qrow: &mut [u64],
-    qstart: &mut [u64],
-    qstop: &mut [u64],
+    queue: &mut [[u64; 4]],
 ) -> Run {
     let mut lengths = [18446744073709551615u64; 257];
     lengths[0] = 1000;
@@ -239,10 +227,7 @@ pub fn give(
         front(start, lens[1]),
         front(stop, lens[2]),
         front(&lengths, lens[3]),
-        qstream,
-        qrow,
-        qstart,
-        qstop,
+        queue,
     )
 }
 
@@ -270,7 +255,7 @@ fn with_odd(names: [usize; 257], k: usize, place: usize) -> [usize; 257] {
 pub fn begin(
     p: Plan,
     room: usize,
-    lens: [usize; 12],
+    lens: [usize; 8],
     chrom: &[u64],
     start: &[u64],
     stop: &[u64],
@@ -280,14 +265,18 @@ pub fn begin(
     let text = name_text();
     let rows_from = p.from;
     let rows_to = p.to;
+    let fixed = Settings {
+        streams: p.streams,
+        chroms: p.chroms,
+        room: room,
+    };
     let s = Run::start(
-        p.streams,
+        fixed,
         rows_from,
         rows_to,
-        room,
         &text,
-        places(&from, lens[10]),
-        places(&to, lens[11]),
+        places(&from, lens[6]),
+        places(&to, lens[7]),
         front(chrom, lens[0]),
         front(start, lens[1]),
         front(stop, lens[2]),

@@ -7,19 +7,19 @@
 //   r CHROM START STOP N  a row of the last stream, or N of them
 //   t K FROM TO           the rows of stream K stand from place FROM up to place TO
 //   l Q                   as much is lent as a room of Q asks, and one answer row more
-//   w COLUMN N            of a column N slots are lent: 0 chromosomes, 1 starts, 2 stops, 3 lengths, 4 to 7 the queue's streams, rows, starts and
-//                         stops, 8 and 9 the answer's streams and rows, 10 and 11 where names begin and end
+//   w SLICE N             of a slice N places are lent: 0 chromosomes, 1 starts, 2 stops, 3 lengths, 4 the queue's slots, 5 the answer rows,
+//                         6 and 7 where names begin and end
 //   h Q                   a run begins with room Q; g Q: l Q, then h Q
-//   b CHROM START STOP    a base; written are the records, the place offered, and how many slots of the answer columns behind them still hold
-//                         what was put there before
+//   b CHROM START STOP    a base; written are the records, the place offered, and how many streams and row numbers of the answer rows behind
+//                         them still hold what was put there before
 //   o 1                   the other run and its queue's memory
 //   q SLOT STREAM ROW START STOP
 //                         a slot of the queue is overwritten
-//   x FIELD K VALUE       a field of the run is overwritten, of stream K: 0 its head's chromosome, 1 start, 2 stop, 3 row, 4 whether it has ended,
-//                         5 its next place, 6 where its rows begin, 7 where they end; 8 the number of streams, 9 of chromosomes; of the ring
-//                         10 head, 11 length, 12 room, 13 chromosome
+//   x FIELD K VALUE       a field of the run is overwritten, of stream K: 0 its head's chromosome, 1 start, 2 stop, 3 row, 4 its mark, 5 its next
+//                         place, 6 where its rows begin, 7 where they end; 8 the number of streams, 9 of chromosomes; of the queue 10 head,
+//                         11 length, 12 room, 13 chromosome
 //   a CHROM START STOP    the run stands as after this base
-//   z N STREAM ROW        the run stands as ended by N
+//   z KIND A B C          the run's mark is overwritten: 7 to 10, ended by that, for 7 and 8 at stream A and row B
 ghost use Prim.Native.Nat.{_<_};
 ghost use lib.ListN.{length};
 
@@ -30,11 +30,11 @@ mod tamper;
 use cases::Bench;
 use cases::put_rows;
 use cases::put_slot;
-use harness::line_end;
-use harness::number;
 use libc::STDOUT_FILENO;
+use tests_shared::line_end;
+use tests_shared::number;
 
-// How many slots the columns have, and the queue's columns, which hold the memory of two runs.
+// How many slots the columns have, and the queue, which holds the memory of two runs.
 pub const SLOTS: usize = 65538;
 
 pub const QUEUES: usize = 65601;
@@ -93,10 +93,7 @@ fn play_all(text: &[u8]) {
     let mut chrom = [0u64; SLOTS];
     let mut start = [0u64; SLOTS];
     let mut stop = [0u64; SLOTS];
-    let mut qstream = [0u64; QUEUES];
-    let mut qrow = [0u64; QUEUES];
-    let mut qstart = [0u64; QUEUES];
-    let mut qstop = [0u64; QUEUES];
+    let mut queue = [[0u64; 4]; QUEUES];
     let mut bench = Bench::fresh();
     let mut at: usize = 0;
     while at < text.len() {
@@ -104,24 +101,8 @@ fn play_all(text: &[u8]) {
         show_line(text, at);
         bench = bench.after(line);
         put_rows(line, bench, &mut chrom, &mut start, &mut stop);
-        put_slot(
-            line,
-            bench,
-            &mut qstream,
-            &mut qrow,
-            &mut qstart,
-            &mut qstop,
-        );
-        bench = bench.act(
-            line,
-            &chrom,
-            &start,
-            &stop,
-            &mut qstream,
-            &mut qrow,
-            &mut qstart,
-            &mut qstop,
-        );
+        put_slot(line, bench, &mut queue);
+        bench = bench.act(line, &chrom, &start, &stop, &mut queue);
         end_line();
         at = line_end(text, at);
     }

@@ -1,49 +1,17 @@
 // A run whose fields are overwritten.
 ghost use Prim.Native.Nat.{_<_};
 use crate::Line;
-use queue::Ring;
-use rules::Base;
-use rules::Chrom;
-use rules::End;
-use rules::Stage;
-use rules::Stream;
-use sweep::Run;
+use runs::Mark;
+use runs::Run;
 
-// The run with another ring.
-fn with_ring(r: Run, ring: Ring) -> Run {
+// The run with another mark.
+fn with_mark(r: Run, mark: Mark) -> Run {
     let mut u = r;
-    u.ring = ring;
+    u.mark = mark;
     u
 }
 
-// The run that stands otherwise.
-fn with_stage(r: Run, stage: Stage) -> Run {
-    let chrom = r.chrom;
-    let start = r.start;
-    let stop = r.stop;
-    let row = r.row;
-    let ended = r.ended;
-    let next = r.next;
-    let from = r.from;
-    let to = r.to;
-    let ring = r.ring;
-    Run {
-        chrom: chrom,
-        start: start,
-        stop: stop,
-        row: row,
-        ended: ended,
-        next: next,
-        from: from,
-        to: to,
-        streams: r.streams,
-        chroms: r.chroms,
-        ring: ring,
-        stage: stage,
-    }
-}
-
-// A head of the run is overwritten: 0 chromosome, 1 start, 2 stop, 3 row, 4 whether its stream has ended.
+// A head of the run is overwritten: 0 chromosome, 1 start, 2 stop, 3 row, 4 the mark of its stream.
 fn with_head(r: Run, field: u64, k: usize, v: u64) -> Run
     requires { ⌜ k < 8 ⌝ }
 {
@@ -53,7 +21,7 @@ fn with_head(r: Run, field: u64, k: usize, v: u64) -> Run
         1 => u.start[k] = v,
         2 => u.stop[k] = v,
         3 => u.row[k] = v,
-        _ => u.ended[k] = v == 1,
+        _ => u.ended[k] = v,
     }
     u
 }
@@ -71,20 +39,20 @@ fn with_place(r: Run, field: u64, k: usize, v: usize) -> Run
     u
 }
 
-// A size of the run or its ring is overwritten: 8 streams, 9 chromosomes, 10 head, 11 length, 12 room, 13 chromosome.
+// A size of the run or its queue is overwritten: 8 streams, 9 chromosomes, 10 head, 11 length, 12 room, 13 chromosome.
 pub fn with_size(r: Run, field: u64, v: usize) -> Run {
     let mut u = r;
-    let mut q = r.ring;
-    let c = Chrom(v as u64);
+    let mut fixed = r.settings;
     match field {
-        8 => u.streams = v,
-        9 => u.chroms = v,
-        10 => q.head = v,
-        11 => q.len = v,
-        12 => q.room = v,
-        _ => q.chrom = c,
+        8 => fixed.streams = v,
+        9 => fixed.chroms = v,
+        10 => u.head = v,
+        11 => u.len = v,
+        12 => fixed.room = v,
+        _ => u.place = v as u64,
     }
-    with_ring(u, q)
+    u.settings = fixed;
+    u
 }
 
 // A field of the run is overwritten.
@@ -101,30 +69,29 @@ fn with_field(r: Run, field: u64, k: usize, v: u64) -> Run {
     with_head(r, field, k, v)
 }
 
-// An end, by its refusal number.
-fn end_of(n: u64, stream: u64, row: u64) -> End {
-    match n {
-        7 => End::Faulty(Stream(stream), row),
-        8 => End::Unsorted(Stream(stream), row),
-        9 => End::NoRoom,
-        _ => End::NoRows,
-    }
-}
-
 // The run after a line.
 pub fn after(r: Run, l: Line) -> Run {
     let letter = l.letter;
     match letter {
         b'x' => with_field(r, l.a, l.b as usize, l.c),
-        b'a' => with_stage(
+        b'a' => with_mark(
             r,
-            Stage::After(Base {
-                chrom: Chrom(l.a),
-                start: l.b,
-                stop: l.c,
-            }),
+            Mark {
+                kind: 1,
+                first: l.a,
+                second: l.b,
+                third: l.c,
+            },
         ),
-        b'z' => with_stage(r, Stage::Over(end_of(l.a, l.b, l.c))),
+        b'z' => with_mark(
+            r,
+            Mark {
+                kind: l.a,
+                first: l.b,
+                second: l.c,
+                third: l.d,
+            },
+        ),
         _ => r,
     }
 }

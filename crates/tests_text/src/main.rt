@@ -4,8 +4,8 @@ ghost use Prim.Native.Nat.{_≤_};
 ghost use lib.ListN.{length};
 use chroms::Check;
 use chroms::Lookup;
+use fields::Reading;
 use libc::STDOUT_FILENO;
-use text::Reading;
 
 fn put(bytes: &[u8]) {
     io::write_all(STDOUT_FILENO, bytes);

@@ -8,9 +8,9 @@ use native.Mathlib.Omega.{arith}
 use lib.Dec.{ltb, leb}
 use lib.ListN.{length, getD}
 use borrow.Author.Tests.{le-ltb, ltb-true, leb-true}
-use Rattle.lists.specs.Lists.{keep, filter, head?, first, All, nil, cons, Sorted}
-use Rattle.lists.proofs.BoolLaws.{clash, and-also}
-use Rattle.lists.proofs.ListLaws.{filter-cong, all-of, all-right, all-first}
+use Rattle.basics.specs.Lists.{keep, filter, head?, first, All, nil, cons, Sorted}
+use Rattle.basics.proofs.BoolLaws.{clash, and-also}
+use Rattle.basics.proofs.ListLaws.{filter-cong, all-of, all-right, all-first}
 use Rattle.rules.specs.declared.Base.{Base}
 use Rattle.rules.specs.declared.Refusal.{Refusal}
 use Rattle.rules.specs.declared.Refusal.the-variants.{Beyond, Unlisted, Unordered, Reversed}

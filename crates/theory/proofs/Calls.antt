@@ -8,9 +8,9 @@ use native.Mathlib.Omega.{arith}
 use lib.Dec.{ltb}
 use lib.ListN.{length}
 use borrow.Author.Tests.{lt-ltb, le-ltb}
-use Rattle.lists.specs.Lists.{filter, All, nil, cons, Sorted}
-use Rattle.lists.proofs.BoolLaws.{and-more, or-left}
-use Rattle.lists.proofs.ListLaws.{filter-append, filter-all, filter-cong, filter-ahead, length-mono, all-of, all-map, all-append, sorted-left, sorted-right, map-append}
+use Rattle.basics.specs.Lists.{filter, All, nil, cons, Sorted}
+use Rattle.basics.proofs.BoolLaws.{and-more, or-left}
+use Rattle.basics.proofs.ListLaws.{filter-append, filter-all, filter-cong, filter-ahead, length-mono, all-of, all-map, all-append, sorted-left, sorted-right, map-append}
 use Rattle.rules.specs.Streams.{Head}
 use Rattle.rules.specs.Promise.{clear, wall, records, struck}
 use Rattle.theory.proofs.Mode.{Mode, Laws, State, Since, walk, step, own, took, due, held, Swept, Good, Tells}

@@ -5,8 +5,8 @@ use mathlib.Core.Path.{_≡_, refl, sym, ap, _∙_}
 use mathlib.Core.Bool.{Bool}
 use mathlib.Core.List.{List, [], _∷_, _++_}
 use Prim.Native.Nat.{ℕ, _≤_}
-use Rattle.lists.specs.Lists.{Pairs}
-use Rattle.lists.proofs.ListLaws.{pairs-at}
+use Rattle.basics.specs.Lists.{Pairs}
+use Rattle.basics.proofs.ListLaws.{pairs-at}
 use Rattle.rules.specs.declared.Base.{Base}
 use Rattle.rules.specs.declared.Refusal.the-variants.{Sizes}
 use Rattle.rules.specs.Numbers.{numberOf}

@@ -11,11 +11,11 @@ use native.Mathlib.Omega.{arith}
 use lib.Dec.{eqb, ltb, leb}
 use lib.ListN.{length, getD}
 use borrow.Author.Tests.{ltb-true, ltb-false, leb-true, le-ltb, le-leb}
-use Rattle.lists.specs.Lists.{some?, filter, first, head?, All, nil, cons, Pairs, Has, here, there}
-use Rattle.lists.specs.Lex.{lex, Lex}
-use Rattle.lists.proofs.BoolLaws.{and-left, and-also, clash}
-use Rattle.lists.proofs.ListLaws.{all-map, all-head, all-tail, pairs-map, pairs-to}
-use Rattle.lists.proofs.LexLaws.{lex-true, lex-fail, lex-map, lex-pass}
+use Rattle.basics.specs.Lists.{some?, filter, first, head?, All, nil, cons, Pairs, Has, here, there}
+use Rattle.basics.specs.Lex.{lex, Lex}
+use Rattle.basics.proofs.BoolLaws.{and-left, and-also, clash}
+use Rattle.basics.proofs.ListLaws.{all-map, all-head, all-tail, pairs-map, pairs-to}
+use Rattle.basics.proofs.LexLaws.{lex-true, lex-fail, lex-map, lex-pass}
 use Rattle.rules.specs.declared.Base.{Base}
 use Rattle.rules.specs.declared.Place.{Place}
 use Rattle.rules.specs.declared.Offer.{Offer}

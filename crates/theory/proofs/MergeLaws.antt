@@ -9,8 +9,8 @@ use lib.Dec.{eqb}
 use lib.ListN.{length, length-map, getD, set}
 use lib.Seq.{getD-set-same, getD-set-other}
 use borrow.Author.Tests.{eqb-true, eqb-false}
-use Rattle.lists.specs.Lists.{keep, filter, total, All, nil, cons, Sorted, next}
-use Rattle.lists.proofs.ListLaws.{all-map, all-head, all-tail}
+use Rattle.basics.specs.Lists.{keep, filter, total, All, nil, cons, Sorted, next}
+use Rattle.basics.proofs.ListLaws.{all-map, all-head, all-tail}
 use Rattle.rules.specs.Merge.{Pick, none, one, onto, better, pick, draw, merge}
 
 -- a is the head of the list number `at`, rest is what follows it there, and ts are the lists without it

@@ -6,7 +6,7 @@ use mathlib.Core.List.{List, [], _∷_, _++_}
 use Prim.Native.Nat.{ℕ, _≤_, _<_}
 use lib.Dec.{leb}
 use lib.ListN.{length}
-use Rattle.lists.specs.Lists.{filter, All, Sorted}
+use Rattle.basics.specs.Lists.{filter, All, Sorted}
 
 -- a mode, over records R and bases B
 pub record Mode (R B : Type 0) : Type 1 where

@@ -6,11 +6,11 @@ use Prim.Native.Nat.{ℕ, suc, _+_, _≤_, _<_, max}
 use native.Mathlib.Omega.{arith}
 use lib.Dec.{eqb, ltb, leb}
 use borrow.Author.Tests.{ltb-true, ltb-false, leb-true, leb-false, lt-ltb, le-ltb, le-leb, lt-leb, eqb-true, eqb-false, eq-eqb}
-use Rattle.lists.specs.Lists.{filter, All, nil, cons}
-use Rattle.lists.specs.Lex.{lex, Lex}
-use Rattle.lists.proofs.BoolLaws.{and-left, and-also, and-cong, and-swap, or-none, or-swap}
-use Rattle.lists.proofs.ListLaws.{filter-cong, all-of, all-map}
-use Rattle.lists.proofs.LexLaws.{lex-true, lex-false, lex-pass, lex-fail, lex-map, lex-refl, lex-trans, lex-on, lex-same, lex-above}
+use Rattle.basics.specs.Lists.{filter, All, nil, cons}
+use Rattle.basics.specs.Lex.{lex, Lex}
+use Rattle.basics.proofs.BoolLaws.{and-left, and-also, and-cong, and-swap, or-none, or-swap}
+use Rattle.basics.proofs.ListLaws.{filter-cong, all-of, all-map}
+use Rattle.basics.proofs.LexLaws.{lex-true, lex-false, lex-pass, lex-fail, lex-map, lex-refl, lex-trans, lex-on, lex-same, lex-above}
 use Rattle.rules.specs.declared.Row.{Row}
 use Rattle.rules.specs.declared.Base.{Base}
 use Rattle.rules.specs.Rows.{Record}

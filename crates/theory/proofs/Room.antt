@@ -10,9 +10,9 @@ use native.Mathlib.Omega.{arith}
 use lib.Dec.{ltb}
 use lib.ListN.{length, length-map, getD}
 use borrow.Author.Tests.{le-ltb, ltb-false}
-use Rattle.lists.specs.Lists.{some?, filter, head?, Pairs}
-use Rattle.lists.proofs.BoolLaws.{clash}
-use Rattle.lists.proofs.ListLaws.{pairs-same, pairs-all, getD-constant}
+use Rattle.basics.specs.Lists.{some?, filter, head?, Pairs}
+use Rattle.basics.proofs.BoolLaws.{clash}
+use Rattle.basics.proofs.ListLaws.{pairs-same, pairs-all, getD-constant}
 use Rattle.rules.specs.declared.Base.{Base}
 use Rattle.rules.specs.declared.Refusal.{Refusal}
 use Rattle.rules.specs.declared.Refusal.the-variants.{Sizes}

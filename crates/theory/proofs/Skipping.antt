@@ -8,9 +8,9 @@ use native.Mathlib.Omega.{arith}
 use lib.Dec.{ltb}
 use lib.ListN.{length}
 use borrow.Author.Tests.{le-ltb, ltb-false}
-use Rattle.lists.specs.Lists.{filter, first, All, nil, cons, Sorted, Has}
-use Rattle.lists.proofs.BoolLaws.{off, clash, and-comm, and-drop, and-cong, and-both}
-use Rattle.lists.proofs.ListLaws.{filter-cong, filter-none, length-mono, all-map, all-both, all-of, all-at, all-head, all-tail, all-left, all-right, sorted-right, first-none}
+use Rattle.basics.specs.Lists.{filter, first, All, nil, cons, Sorted, Has}
+use Rattle.basics.proofs.BoolLaws.{off, clash, and-comm, and-drop, and-cong, and-both}
+use Rattle.basics.proofs.ListLaws.{filter-cong, filter-none, length-mono, all-map, all-both, all-of, all-at, all-head, all-tail, all-left, all-right, sorted-right, first-none}
 use Rattle.rules.specs.Streams.{Head}
 use Rattle.rules.specs.Promise.{clear, wall, records, struck}
 use Rattle.rules.specs.Skip.{Mark, give, skip, every, given, missed, heard}

@@ -8,9 +8,9 @@ use native.Mathlib.Omega.{arith}
 use lib.Dec.{leb}
 use lib.ListN.{length}
 use borrow.Author.Tests.{leb-true, leb-false}
-use Rattle.lists.specs.Lists.{filter, front, back, All, nil, cons, Sorted}
-use Rattle.lists.proofs.BoolLaws.{and-right, and-own, or-true, or-cases, iff}
-use Rattle.lists.proofs.ListLaws.{filter-append, filter-cong, filter-filter, filter-ahead, filter-parted, filter-passes, length-filter, all-of, all-map, all-both, all-append, all-right, sorted-right, front-back, front-all, back-none}
+use Rattle.basics.specs.Lists.{filter, front, back, All, nil, cons, Sorted}
+use Rattle.basics.proofs.BoolLaws.{and-right, and-own, or-true, or-cases, iff}
+use Rattle.basics.proofs.ListLaws.{filter-append, filter-cong, filter-filter, filter-ahead, filter-parted, filter-passes, length-filter, all-of, all-map, all-both, all-append, all-right, sorted-right, front-back, front-all, back-none}
 use Rattle.theory.proofs.Mode.{Mode, State, Laws, Since, step, own, took, due, held, Swept, Good, Tells}
 use Rattle.theory.proofs.Walk.{load, walk-load}
 

@@ -9,11 +9,11 @@ use native.Mathlib.Omega.{arith}
 use lib.Dec.{eqb, ltb, leb}
 use lib.ListN.{length, getD}
 use borrow.Author.Tests.{leb-true, not-true}
-use Rattle.lists.specs.Lists.{some?, filter, All, nil, cons, Sorted, next}
-use Rattle.lists.specs.Lex.{lex, Lex}
-use Rattle.lists.proofs.BoolLaws.{and-also, clash}
-use Rattle.lists.proofs.ListLaws.{all-map}
-use Rattle.lists.proofs.LexLaws.{lex-true, lex-false, lex-map, lex-refl, lex-trans}
+use Rattle.basics.specs.Lists.{some?, filter, All, nil, cons, Sorted, next}
+use Rattle.basics.specs.Lex.{lex, Lex}
+use Rattle.basics.proofs.BoolLaws.{and-also, clash}
+use Rattle.basics.proofs.ListLaws.{all-map}
+use Rattle.basics.proofs.LexLaws.{lex-true, lex-false, lex-map, lex-refl, lex-trans}
 use Rattle.rules.specs.declared.Row.{Row}
 use Rattle.rules.specs.declared.End.{End}
 use Rattle.rules.specs.declared.End.the-variants.{Faulty, Unsorted}

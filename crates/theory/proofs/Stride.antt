@@ -8,9 +8,9 @@ use native.Mathlib.Omega.{arith}
 use lib.Dec.{leb}
 use lib.ListN.{length}
 use borrow.Author.Tests.{not-true}
-use Rattle.lists.specs.Lists.{some?, front, back, All, nil, cons, Sorted, next}
-use Rattle.lists.proofs.BoolLaws.{clash}
-use Rattle.lists.proofs.ListLaws.{all-map, all-head, all-right, front-back, front-all}
+use Rattle.basics.specs.Lists.{some?, front, back, All, nil, cons, Sorted, next}
+use Rattle.basics.proofs.BoolLaws.{clash}
+use Rattle.basics.proofs.ListLaws.{all-map, all-head, all-right, front-back, front-all}
 use Rattle.rules.specs.Streams.{Head}
 use Rattle.rules.specs.Promise.{clear, wall, records, struck}
 use Rattle.theory.proofs.Mode.{Mode, Laws, State, walk}

@@ -7,7 +7,7 @@ use Prim.Native.Nat.{ℕ, zero, suc}
 use native.Mathlib.Omega.{arith}
 use lib.Dec.{leb}
 use lib.ListN.{length}
-use Rattle.lists.specs.Lists.{total}
+use Rattle.basics.specs.Lists.{total}
 use Rattle.rules.specs.Merge.{Pick, none, one, pick}
 use Rattle.rules.specs.Streams.{Head}
 use Rattle.rules.specs.Pull.{Pull, paused, ends, unlessWrong, turn, turns, pull}

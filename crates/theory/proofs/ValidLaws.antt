@@ -8,9 +8,9 @@ use native.Mathlib.Omega.{arith}
 use lib.Dec.{ltb}
 use lib.ListN.{length, getD}
 use borrow.Author.Tests.{not-true}
-use Rattle.lists.specs.Lists.{some?, front, back, All, nil, cons}
-use Rattle.lists.proofs.BoolLaws.{clash}
-use Rattle.lists.proofs.ListLaws.{all-map, all-mapped, front-whole, back-whole}
+use Rattle.basics.specs.Lists.{some?, front, back, All, nil, cons}
+use Rattle.basics.proofs.BoolLaws.{clash}
+use Rattle.basics.proofs.ListLaws.{all-map, all-mapped, front-whole, back-whole}
 use Rattle.rules.specs.declared.Row.{Row}
 use Rattle.rules.specs.declared.Base.{Base}
 use Rattle.rules.specs.declared.End.{End}

@@ -8,7 +8,7 @@ use native.Mathlib.Omega.{arith}
 use lib.Dec.{leb}
 use lib.ListN.{length, length-append}
 use borrow.Author.Tests.{leb-true, leb-false, le-leb, lt-leb}
-use Rattle.lists.specs.Lists.{keep, filter, front, back}
+use Rattle.basics.specs.Lists.{keep, filter, front, back}
 use Rattle.theory.proofs.Mode.{Mode, State, walk}
 
 -- the queue q with l left, if there is room for q

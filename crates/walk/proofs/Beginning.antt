@@ -9,9 +9,10 @@ use lib.Dec.{leb, eqb}
 use lib.ListN.{length, getD, take, length-take}
 use lib.Seq.{length-take-le}
 use borrow.Author.Tests.{eq-eqb}
-use Rattle.lists.specs.Lists.{All, nil, cons}
-use Rattle.lists.specs.Build.{build}
-use Rattle.lists.proofs.SaysLaws.{says-true, says-le, says-and}
+use Rattle.basics.specs.Lists.{All, nil, cons}
+use Rattle.basics.specs.Build.{build}
+use Rattle.basics.proofs.SaysLaws.{says-true, says-le, says-and}
+use Rattle.rules.specs.declared.Settings.{Settings}
 use Rattle.rules.specs.declared.Unbegun.{Unbegun}
 use Rattle.rules.specs.declared.Unbegun.the-variants.{Sizes}
 use Rattle.rules.specs.declared.Row.{Row}
@@ -22,24 +23,25 @@ use Rattle.rules.specs.Start as start
 use Rattle.rules.specs.Call.{fresh}
 use Rattle.rules.specs.Call as rules
 use Rattle.theory.proofs.MergeLaws.{Each}
-use Rattle.text.specs.Names.{within, names}
+use Rattle.fields.specs.Names.{within, names}
+use Rattle.fields.proofs.Naming.{names-length}
 use Rattle.heads.specs.View.{Cols}
 use Rattle.queue.specs.Ring.{Cells}
-use Rattle.sweep.specs.declared.Run.{Run}
-use Rattle.sweep.specs.declared.start.Begins.the-variants.{Begun}
-use Rattle.sweep.specs.View.{runOf, headsOf}
+use Rattle.runs.specs.declared.Run.{Run}
+use Rattle.runs.specs.declared.start.Begins.the-variants.{Begun}
+use Rattle.runs.specs.View.{runOf, headsOf}
 use Rattle.pulls.specs.Pulls.{Lent, lent}
-use Rattle.sweep.specs.Settle.{Going}
-use Rattle.sweep.specs.Start.{Plan, plan, rowIn, streamsOf, evened, ranged, inRows, inText, lendable, refusedOf, begunBy, startOf, Lends}
-use Rattle.sweep.proofs.Starting.{ranged-says}
-use Rattle.sweep.proofs.StartLaws.{begun-fresh, begun-right}
+use Rattle.step.specs.Settle.{Going}
+use Rattle.runs.specs.Start.{Plan, plan, rowIn, streamsOf, counted, evened, ranged, inRows, inText, lendable, refusedOf, begunBy, startOf, Lends}
+use Rattle.runs.proofs.Starting.{ranged-says}
+use Rattle.runs.proofs.StartLaws.{begun-fresh, begun-right}
 use Rattle.heads.specs.Move.{Shaped}
 use Rattle.demands.specs.Calls.{Blameless}
 use Rattle.demands.proofs.KeptLaws.{each-all}
-use Rattle.texts.specs.Texts.{Texts, Fault, fault, room, rowsMost, bytesMost, bytesOf, namesIn, namesOf, jobOf, sizesFault, foundFault, listFault, unbegunFault, streamsFault, faultOf, entriesIn, rowsIn}
-use Rattle.texts.specs.Read.{places, Named, Columns, Rooms}
-use Rattle.texts.specs.declared.Read.{Read}
-use Rattle.texts.proofs.Streaming.{place-at}
+use Rattle.inputs.specs.Texts.{Texts, Fault, fault, room, rowsMost, bytesMost, bytesOf, namesIn, namesOf, jobOf, sizesFault, foundFault, listFault, unbegunFault, settingsIn, streamsFault, faultOf, entriesIn, rowsIn}
+use Rattle.inputs.specs.Read.{places, Named, Columns, Rooms}
+use Rattle.inputs.specs.declared.Read.{Read}
+use Rattle.inputs.proofs.Streaming.{place-at}
 use Rattle.walk.specs.Run.{Own, Comes, Fine, Slots, Begins, planOf}
 
 -- ---- nothing wrong
@@ -61,9 +63,9 @@ pub fine-sizes : (t : Texts) → faultOf t ≡ none → sizesFault t ≡ none
 unfolding faultOf
 fine-sizes t e = else-left (sizesFault t) _ e
 
-fine-names : (t : Texts) → faultOf t ≡ none → refusesStart (length (t .streams)) (namesOf t) room ≡ none
+fine-names : (t : Texts) → faultOf t ≡ none → refusesStart (settingsIn (length (t .streams)) (namesOf t)) (namesOf t) ≡ none
 unfolding faultOf
-fine-names t e = go (refusesStart (length (t .streams)) (namesOf t) room) (else-right (foundFault 0 (entriesIn (t .list))) _ (else-left (listFault (length (t .streams)) (t .list)) _ (else-right (sizesFault t) _ e)))
+fine-names t e = go (refusesStart (settingsIn (length (t .streams)) (namesOf t)) (namesOf t)) (else-right (foundFault 0 (entriesIn (t .list))) _ (else-left (listFault (length (t .streams)) (t .list)) _ (else-right (sizesFault t) _ e)))
   where
     go : (o : Option Unbegun) → unbegunFault o ≡ none → o ≡ none
     go none h = refl
@@ -99,9 +101,14 @@ module _ {t : Texts} {r : Read} {list from to len : List ℕ} {b s : Cols} (is-l
       passed true e = refl
       passed false e = let z : _≡_ {A = ℕ} 0 1 = cc in absurd (omega arith)
 
+  -- as many names are lent as were read
+  from-long : length (take (r .names) from) ≡ r .names
+  from-long = length-take-le (r .names) from (omega (arith, names-is .few, f .rooms .names-from))
+
   lends : lendable p ≡ true
   unfolding lendable
   lends =
+      let count : counted p ≡ true = eq-eqb (length (take (r .names) from)) (r .names) from-long in
       let even : evened s ≡ true = rw (f .rooms .chrom, f .rooms .start, f .rooms .stop) in
       let rows : inRows p ≡ true = says-true (ranged-says (length (s .chrom)) (r .streams) places (r .to)) (
         omega (arith, f .columns .streams, some-streams .1),
@@ -110,14 +117,24 @@ module _ {t : Texts} {r : Read} {list from to len : List ℕ} {b s : Cols} (is-l
           omega (arith, f .columns .high k (omega (arith, f .columns .streams)), f .rooms .chrom, f .columns .streams, some-streams .1),
         ),
       ) in
-      rw (even, rows) (names-is .inside)
+      rw (count, even, rows) (names-is .inside)
+
+  -- the names as they stand in the list's text
+  abbrev listed : List (List ℕ)
+  listed = names list (take (r .names) from) (take (r .names) to)
+
+  -- what is fixed from the start is what was judged before the run
+  settings-is : p .settings ≡ settingsIn (length (t .streams)) listed
+  settings-is =
+      ap (λ (n : ℕ). record { streams = n; chroms = r .names; room = room }) (f .columns .streams)
+      ∙ ap (λ (n : ℕ). record { streams = length (t .streams); chroms = n; room = room }) (sym (names-length (length list) list (take (r .names) from) (take (r .names) to) (names-is .inside) ∙ from-long))
 
   begun : startOf p .begins ≡ Begun
   unfolding refusedOf
   begun =
-      ap begunBy (ap (λ (u : Bool). cond u (refusesStart (r .streams) (names list (take (r .names) from) (take (r .names) to)) room) (some Sizes)) lends
-      ∙ ap (λ (n : ℕ). refusesStart n (names list (take (r .names) from) (take (r .names) to)) room) (f .columns .streams)
-      ∙ ap (λ (ns : List (List ℕ)). refusesStart (length (t .streams)) ns room) (names-is .named ∙ ap namesIn (sym is-list))
+      ap begunBy (ap (λ (u : Bool). cond u (refusesStart (p .settings) listed) (some Sizes)) lends
+      ∙ ap (λ (x : Settings). refusesStart x listed) settings-is
+      ∙ ap (λ (ns : List (List ℕ)). refusesStart (settingsIn (length (t .streams)) ns) ns) (names-is .named ∙ ap namesIn (sym is-list))
       ∙ fine-names t (f .fine))
 
   -- what is left is all the streams' rows
@@ -130,19 +147,15 @@ module _ {t : Texts} {r : Read} {list from to len : List ℕ} {b s : Cols} (is-l
   from-is : startOf p .run .from ≡ places
   from-is = rw begun
 
-  room-is : startOf p .run .ring .room ≡ room
+  room-is : startOf p .run .settings .room ≡ room
   room-is = rw begun
 
-  lengths-long : length (take (r .names) len) ≡ length (take (r .names) from)
-  lengths-long =
-      let a = length-take-le (r .names) len (omega (arith, names-is .few, f .rooms .lengths)) in
-      let b = length-take-le (r .names) from (omega (arith, names-is .few, f .rooms .names-from)) in
-      a ∙ sym b
+  lengths-long : length (take (r .names) len) ≡ r .names
+  lengths-long = length-take-le (r .names) len (omega (arith, names-is .few, f .rooms .lengths))
 
   comes : (c : Cells) → Slots c → Comes s (take (r .names) len) (startOf p .run) c
   comes c z = record {
-    blameless = λ ss rs enough paired. begun-right p begun (take (r .names) len) (lent c ss rs)
-        (record { listed = lengths-long; stream = z .stream; row = z .row; start = z .start; stop = z .stop; answer = omega (arith, enough, room-is); paired = paired });
+    blameless = λ answers enough. begun-right p begun (take (r .names) len) (lent c answers) (record { listed = lengths-long; slots = z; answer = omega (arith, enough, room-is) });
     whole = rw begun (λ z. record { chrom = refl; start = refl; stop = refl; row = refl; ended = refl; next = refl });
     room = room-is;
     left = λ k. subst (λ (l : List ℕ). All (Own s l) (getD (runOf s c (startOf p .run) .left) k [])) (sym from-is)

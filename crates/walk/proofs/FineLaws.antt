@@ -7,16 +7,16 @@ use Prim.Native.Nat.{ℕ, _-_, _≤_, _<_}
 use native.Mathlib.Omega.{arith}
 use native.Mathlib.Nat.{sub-zero}
 use lib.ListN.{length, getD, take}
-use Rattle.text.specs.Names.{within}
+use Rattle.fields.specs.Names.{within}
 use Rattle.heads.specs.View.{Cols}
-use Rattle.texts.specs.Texts.{Texts, Fault, fault, sizesFault, faultOf}
-use Rattle.texts.specs.Parted.{textsOf, sizedBy}
-use Rattle.texts.specs.Read.{faultBy, Reads}
-use Rattle.texts.specs.declared.Read.{Read}
-use Rattle.texts.specs.declared.Verdict.{Verdict}
-use Rattle.texts.specs.declared.Verdict.the-variants as verdict
-use Rattle.texts.proofs.Parting.{texts-list, texts-sizes}
-use Rattle.texts.proofs.Reading.{some-texts, list-within}
+use Rattle.inputs.specs.Texts.{Texts, Fault, fault, sizesFault, faultOf}
+use Rattle.inputs.specs.Parted.{textsOf, sizedBy}
+use Rattle.inputs.specs.Read.{faultBy, Reads}
+use Rattle.inputs.specs.declared.Read.{Read}
+use Rattle.inputs.specs.declared.Verdict.{Verdict}
+use Rattle.inputs.specs.declared.Verdict.the-variants as verdict
+use Rattle.inputs.proofs.Parting.{texts-list, texts-sizes}
+use Rattle.inputs.proofs.Reading.{some-texts, list-within}
 use Rattle.walk.specs.Run.{Bases, Fine}
 use Rattle.walk.proofs.Beginning.{fine-sizes}
 

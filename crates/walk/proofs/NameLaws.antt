@@ -7,15 +7,15 @@ use native.Mathlib.Omega.{arith}
 use lib.Dec.{leb}
 use lib.ListN.{length, getD}
 use borrow.Author.Tests.{leb-true}
-use Rattle.text.specs.Names.{part, within, names}
+use Rattle.fields.specs.Names.{part, within, names}
 use Rattle.rules.specs.declared.Base.{Base}
 use Rattle.heads.specs.View.{Cols}
-use Rattle.sweep.specs.declared.Run.{Run}
+use Rattle.runs.specs.declared.Run.{Run}
 use Rattle.pulls.specs.Pulls.{Lent}
 use Rattle.replies.specs.declared.Listed.{Listed}
 use Rattle.replies.specs.List.{Lists}
 use Rattle.walk.specs.Run.{Bases}
-use Rattle.text.proofs.Both.{and-left, and-right}
+use Rattle.fields.proofs.Both.{and-left, and-right}
 
 pub name-low : (n : ℕ) (fs ts : List ℕ) (c : ℕ) → within n fs ts ≡ true → getD fs c 0 ≤ getD ts c 0
 unfolding within

@@ -5,21 +5,21 @@ use mathlib.Core.Option.{none}
 use mathlib.Core.List.{List, []}
 use Prim.Native.Nat.{ℕ, _+_, _≤_, _<_}
 use lib.ListN.{length, getD, take}
-use Rattle.lists.specs.Lists.{All}
+use Rattle.basics.specs.Lists.{All}
 use Rattle.rules.specs.Rows.{Record}
 use Rattle.rules.specs.Call.{fresh}
-use Rattle.text.specs.Names.{within}
+use Rattle.fields.specs.Names.{within}
 use Rattle.heads.specs.View.{Cols}
 use Rattle.heads.specs.Move.{Shaped}
 use Rattle.queue.specs.Ring.{Cells}
-use Rattle.sweep.specs.declared.Run.{Run}
-use Rattle.sweep.specs.View.{headsOf, runOf}
-use Rattle.sweep.specs.Settle.{Going}
-use Rattle.sweep.specs.Start.{Plan, plan, rowIn}
+use Rattle.runs.specs.declared.Run.{Run}
+use Rattle.runs.specs.View.{headsOf, stageOf, runOf}
+use Rattle.step.specs.Settle.{Going}
+use Rattle.runs.specs.Start.{Plan, plan, rowIn}
 use Rattle.demands.specs.Calls.{Blameless}
-use Rattle.texts.specs.Texts.{Texts, room, faultOf, jobOf}
-use Rattle.texts.specs.Read.{places, Columns, Rooms}
-use Rattle.texts.specs.declared.Read.{Read}
+use Rattle.inputs.specs.Texts.{Texts, room, faultOf, jobOf}
+use Rattle.inputs.specs.Read.{places, Columns, Rooms}
+use Rattle.inputs.specs.declared.Read.{Read}
 
 -- a record is the row of the columns that its stream and row name
 abbrev pub Own : Cols → List ℕ → Record → Type 0
@@ -28,8 +28,8 @@ Own s from a = a .it ≡ rowIn s (getD from (a .stream .0) 0 + a .row)
 -- the run r, with its queue's memory c, comes back: it is not the cause of 1, and all that is left and all that waits are the columns' own rows
 pub record Comes (s : Cols) (lengths : List ℕ) (r : Run) (c : Cells) : Type 0 where
   pub blameless : Blameless s lengths r c
-  pub whole : Going (r .stage) → Shaped (headsOf r)
-  pub room : r .ring .room ≡ room
+  pub whole : Going (stageOf r) → Shaped (headsOf r)
+  pub room : r .settings .room ≡ room
   pub left : (k : ℕ) → All (Own s (r .from)) (getD (runOf s c r .left) k [])
   pub queue : All (Own s (r .from)) (runOf s c r .queue)
 
@@ -47,16 +47,13 @@ pub record Fine (t : Texts) (r : Read) (from to len : List ℕ) (b s : Cols) : T
   pub rooms : Rooms from to len b s
   pub columns : Columns t r from to len b s
 
--- the columns of a queue have a slot for each of the room
-pub record Slots (c : Cells) : Type 0 where
-  pub stream : length (c .stream) ≡ room
-  pub row : length (c .row) ≡ room
-  pub start : length (c .start) ≡ room
-  pub stop : length (c .stop) ≡ room
+-- the memory of a queue has a slot for each of the room
+abbrev pub Slots : Cells → Type 0
+Slots c = length c ≡ room
 
 -- what the run is begun with, from what was read
 abbrev pub planOf : Read → List ℕ → List ℕ → List ℕ → Cols → Plan
-planOf r list from to s = plan (r .streams) places (r .to) room list (take (r .names) from) (take (r .names) to) s
+planOf r list from to s = plan (record { streams = r .streams; chroms = r .names; room = room }) places (r .to) list (take (r .names) from) (take (r .names) to) s
 
 -- the run that begins is the job's own, with any memory for its queue
 pub record Begins (t : Texts) (n : ℕ) (len : List ℕ) (s : Cols) (r : Run) : Type 0 where

@@ -1,22 +1,22 @@
 // The bases of a listing's texts, one at a time: the run that begins, a base given to it, its lines written.
 // The functions here are called by the proved listing and its program alone.
+use inputs::Read;
 use replies::Listed;
 use rules::Base;
 use rules::Chrom;
-use sweep::Run;
-use texts::Read;
+use rules::Settings;
+use runs::Run;
 ghost use mathlib.Core.Path.{_≡_};
 ghost use mathlib.Core.List.{[]};
 ghost use Prim.Native.Nat.{_+_, _≤_, _<_};
 ghost use lib.ListN.{length, getD};
-ghost use Rattle.text.specs.Names.{names};
+ghost use Rattle.fields.specs.Names.{names};
 ghost use Rattle.heads.specs.View.{cols};
-ghost use Rattle.queue.specs.Ring.{cells};
 ghost use Rattle.pulls.specs.Pulls.{lent};
-ghost use Rattle.sweep.specs.Start.{startOf};
+ghost use Rattle.runs.specs.Start.{startOf};
 ghost use Rattle.replies.specs.List.{Lists};
-ghost use Rattle.texts.specs.Texts.{rowsMost, room};
-ghost use Rattle.texts.specs.Read.{baseIn};
+ghost use Rattle.inputs.specs.Texts.{rowsMost, room};
+ghost use Rattle.inputs.specs.Read.{baseIn};
 ghost use Rattle.walk.specs.Run.{Bases, planOf};
 
 // The run of texts that were read, with nothing wrong.
@@ -35,11 +35,15 @@ pub fn begin(
     let n = read.names;
     let tops = read.to;
     let places = [0, 1024, 2048, 3072, 4096, 5120, 6144, 7168];
+    let fixed = Settings {
+        streams: read.streams,
+        chroms: n,
+        room: 1024,
+    };
     let s = Run::start(
-        read.streams,
+        fixed,
         places,
         tops,
-        1024,
         list,
         &from[..n],
         &to[..n],
@@ -48,17 +52,6 @@ pub fn begin(
         stop,
     );
     s.run
-}
-
-// The place that a column names; 0 past its end.
-fn place_at(col: &[usize], k: u64) -> usize
-    ensures { λ r. ⌜ r ≡ getD (now (col .entry)) k 0 ⌝ }
-{
-    let i = k as usize;
-    if col.len() <= i {
-        return 0;
-    }
-    col[i]
 }
 
 // Base number i is given to the run, and its lines are written.
@@ -75,12 +68,8 @@ pub fn list_row(
     chrom: &[u64],
     start: &[u64],
     stop: &[u64],
-    qstream: &mut [u64],
-    qrow: &mut [u64],
-    qstart: &mut [u64],
-    qstop: &mut [u64],
-    streams: &mut [u64],
-    rows: &mut [u64],
+    queue: &mut [[u64; 4]],
+    answers: &mut [[u64; 2]],
     out: &mut [u8],
     at: usize,
 ) -> Listed
@@ -88,9 +77,9 @@ pub fn list_row(
     ensures { λ x. ⌜ Lists (cols (now (chrom .entry)) (now (start .entry)) (now (stop .entry))) (now (lengths .entry)) run
         (baseIn (cols (now (bchrom .entry)) (now (bstart .entry)) (now (bstop .entry))) i) i
         (getD (names (now (list .entry)) (now (from .entry)) (now (to .entry))) (getD (now (bchrom .entry)) i 0) [])
-        (lent (cells (now (qstream .entry)) (now (qrow .entry)) (now (qstart .entry)) (now (qstop .entry))) (now (streams .entry)) (now (rows .entry)))
+        (lent (now (queue .entry)) (now (answers .entry)))
         (now (out .entry)) at x
-        (lent (cells (now (qstream .exit)) (now (qrow .exit)) (now (qstart .exit)) (now (qstop .exit))) (now (streams .exit)) (now (rows .exit)))
+        (lent (now (queue .exit)) (now (answers .exit)))
         (now (out .exit)) ⌝ }
 {
     let c = bchrom[i];
@@ -99,8 +88,8 @@ pub fn list_row(
         start: bstart[i],
         stop: bstop[i],
     };
-    let f = place_at(from, c);
-    let t = place_at(to, c);
+    let f = replies::place_at(from, c);
+    let t = replies::place_at(to, c);
     replies::list_base(
         run,
         base,
@@ -110,12 +99,8 @@ pub fn list_row(
         start,
         stop,
         lengths,
-        qstream,
-        qrow,
-        qstart,
-        qstop,
-        streams,
-        rows,
+        queue,
+        answers,
         out,
         at,
     )

@@ -1,19 +1,17 @@
 //! Many bases at once: as one at a time, whatever the batches and wherever a base is refused or the run ends.
 
-use crate::raw::{self, Cols, Held, Names, Queue, Told};
 use crate::rng::Rng;
 use cedarlash::{Answer, Base, Columns, Genome, Records, Rows, Sweep};
 use std::convert::Infallible;
-use std::panic::{catch_unwind, AssertUnwindSafe};
 
 /// The chromosomes of every job here.
 pub const LIST: &str = "a\t60\nb\nc\t50\n";
-const LENGTHS: [u64; 3] = [60, u64::MAX, 50];
+pub const LENGTHS: [u64; 3] = [60, u64::MAX, 50];
 
 pub struct Job {
     pub streams: Vec<Vec<Base>>,
     pub bases: Vec<Base>,
-    room: usize,
+    pub room: usize,
 }
 
 /// What a base gets, but for the offer, which a batch doesn't tell.
@@ -200,121 +198,4 @@ fn a_long_column_of_bases() {
         }
     }
     assert!(whole > 100 && rest > 1_000, "{whole} {rest}");
-}
-
-// ---- the call itself, with the memory that it is lent
-
-/// A run and all that its calls are lent, filled with numbers that no call writes.
-struct Lent {
-    held: Held,
-    cols: [Vec<u64>; 3],
-    queue: [Vec<u64>; 4],
-    streams: Vec<u64>,
-    rows: Vec<u64>,
-    counts: Vec<usize>,
-}
-
-const OLD: u64 = 1_000_000;
-
-fn column(rows: &[Base], field: fn(&Base) -> u64) -> Vec<u64> {
-    rows.iter().map(field).collect()
-}
-
-fn three(rows: &[Base]) -> [Vec<u64>; 3] {
-    [column(rows, |r| r.chrom), column(rows, |r| r.start), column(rows, |r| r.stop)]
-}
-
-fn lend([chrom, start, stop]: &[Vec<u64>; 3]) -> Cols<'_> {
-    Cols { chrom, start, stop }
-}
-
-impl Lent {
-    fn begin(job: &Job, spare: usize, counts: usize) -> Lent {
-        let cols = three(&job.streams.concat());
-        let mut ends = vec![0];
-        job.streams.iter().for_each(|s| ends.push(ends[ends.len() - 1] + s.len()));
-        let names = Names { text: b"abc", from: &[0, 1, 2], to: &[1, 2, 3] };
-        let mut held = Held::NONE;
-        let (from, to) = (&ends[..job.streams.len()], &ends[1..]);
-        assert_eq!(raw::begin(&mut held, from, to, job.room, names, lend(&cols)), 0);
-        let queue = [(); 4].map(|()| vec![OLD; job.room]);
-        let rows = vec![OLD; job.room + spare];
-        Lent { held, cols, queue, streams: rows.clone(), rows, counts: vec![OLD as usize; counts] }
-    }
-
-    /// One answer row less than the room.
-    fn shorten(&mut self) {
-        self.rows.truncate(self.queue[0].len() - 1);
-        self.streams.truncate(self.queue[0].len() - 1);
-    }
-
-    fn give(&mut self, base: Base) -> Told {
-        let [stream, row, start, stop] = &mut self.queue;
-        let queue = Queue { stream, row, start, stop };
-        raw::give(&mut self.held, base, lend(&self.cols), &LENGTHS, queue, &mut self.streams, &mut self.rows)
-    }
-
-    fn give_all(&mut self, bases: Cols) -> raw::Passed {
-        let [stream, row, start, stop] = &mut self.queue;
-        let queue = Queue { stream, row, start, stop };
-        let (streams, rows, counts) = (&mut self.streams, &mut self.rows, &mut self.counts);
-        raw::give_all(&mut self.held, bases, lend(&self.cols), &LENGTHS, queue, streams, rows, counts)
-    }
-}
-
-/// The counts and records of the answered bases, one behind the other; and what stood behind them is as it was.
-#[test]
-fn what_is_lent_behind_the_answers_stays() {
-    let mut rng = Rng(33);
-    for _ in 0..8_000 {
-        let job = job(&mut rng, 30);
-        let (spare, more) = (*rng.pick(&[0, 3, 200]), rng.below(3));
-        let mut alone = Lent::begin(&job, 0, 0);
-        let mut many = Lent::begin(&job, spare, job.bases.len() + more);
-        let passed = many.give_all(lend(&three(&job.bases)));
-        let (mut counts, mut streams, mut rows) = (Vec::new(), Vec::new(), Vec::new());
-        for &base in &job.bases[..passed.bases] {
-            let told = alone.give(base);
-            assert_eq!(told.refusal, 0);
-            counts.push(told.count);
-            streams.extend_from_slice(&alone.streams[..told.count]);
-            rows.extend_from_slice(&alone.rows[..told.count]);
-        }
-        assert_eq!(passed.records, rows.len());
-        counts.resize(many.counts.len(), OLD as usize);
-        streams.resize(many.streams.len(), OLD);
-        rows.resize(many.rows.len(), OLD);
-        assert_eq!((&many.counts, &many.streams, &many.rows), (&counts, &streams, &rows));
-        // What the next one got; then the run goes on as the other does, offers and all.
-        let mut left = job.bases[passed.bases..].iter();
-        match passed.last.refusal {
-            0 => assert_eq!(passed.last, NOTHING),
-            _ => assert_eq!(passed.last, alone.give(*left.next().expect("a base was refused"))),
-        }
-        left.for_each(|&base| assert_eq!(many.give(base), alone.give(base)));
-    }
-}
-
-const NOTHING: Told = Told { refusal: 0, count: 0, stream: 0, row: 0, offered: 0, chrom: 0, stop: 0 };
-
-/// Lengths that differ stop the host before the call.
-#[test]
-fn broken_lengths() {
-    let job = Job { streams: vec![vec![]], bases: vec![Base { chrom: 0, start: 1, stop: 2 }; 3], room: 4 };
-    let passes = |counts: usize, spoil: fn(&mut Lent, &mut [Vec<u64>; 3])| {
-        let (mut lent, mut bases) = (Lent::begin(&job, 0, counts), three(&job.bases));
-        spoil(&mut lent, &mut bases);
-        catch_unwind(AssertUnwindSafe(|| lent.give_all(lend(&bases)).bases)).ok()
-    };
-    assert_eq!(passes(3, |_, _| {}), Some(3));
-    assert_eq!(passes(4, |_, _| {}), Some(3));
-    assert_eq!(passes(0, |_, bases| bases.iter_mut().for_each(Vec::clear)), Some(0));
-    assert_eq!(passes(2, |_, _| {}), None);
-    assert_eq!(passes(3, |_, bases| bases[0].truncate(2)), None);
-    assert_eq!(passes(3, |_, bases| bases[1].truncate(2)), None);
-    assert_eq!(passes(3, |_, bases| bases[2].push(9)), None);
-    assert_eq!(passes(3, |lent, _| lent.rows.truncate(3)), None);
-    assert_eq!(passes(3, |lent, _| lent.shorten()), None);
-    assert_eq!(passes(3, |lent, _| lent.queue[2].truncate(3)), None);
-    assert_eq!(passes(3, |lent, _| lent.cols[1].push(5)), None);
 }

@@ -2,6 +2,7 @@
 
 mod api;
 mod batches;
+mod calls;
 mod command;
 mod example;
 mod files;

@@ -31,7 +31,11 @@ is-row-requires : tie.Need-is-row-requires
 is-row-requires c κs = search needs
 
 returns-2 : tie.Need-returns-2
-returns-2 c = named-at _ _ _ _ _ _ _ (omega (arith, c .before .before .before .before .before .number .ensures, c .before .before .before .before .if1 .left)) (c .before .before .before .place-in .ensures) (c .is-row .ensures)
+returns-2 c =
+    let at-place-in = c .before .before .before in
+    let at-if1 = at-place-in .before in
+    let at-number = at-if1 .before in
+    named-at _ _ _ _ _ _ _ (omega (arith, at-number .number .ensures, at-if1 .if1 .left)) (at-place-in .place-in .ensures) (c .is-row .ensures)
 
 pub slot-named-spec : {M : Type 1} → statement M
 slot-named-spec =

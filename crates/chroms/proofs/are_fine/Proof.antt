@@ -23,7 +23,12 @@ is-fine-requires : tie.Need-is-fine-requires Inv-loop μ-loop
 is-fine-requires c κs = search needs
 
 returns : tie.Need-returns Inv-loop μ-loop
-returns c = sym (checking-bad (c .before .before .before .loop .inv) (c .before .before .before .before .before .before .before .pre) (c .before .before .loop-test .taken) (sym (c .before .is-fine .ensures) ∙ not-true _ (c .if1 .taken)))
+returns c =
+    let at-is-fine = c .before in
+    let at-loop-test = at-is-fine .before in
+    let at-loop = at-loop-test .before in
+    let at-pre = at-loop .before .before .before .before in
+    sym (checking-bad (at-loop .loop .inv) (at-pre .pre) (at-loop-test .loop-test .taken) (sym (at-is-fine .is-fine .ensures) ∙ not-true _ (c .if1 .taken)))
 
 add-k : tie.Need-add-k Inv-loop μ-loop
 add-k c = search needs
@@ -32,7 +37,12 @@ loop-less : tie.Need-loop-less Inv-loop μ-loop
 loop-less c = search needs
 
 loop-again : tie.Need-loop-again Inv-loop μ-loop
-loop-again c = checking-next (c .before .before .before .loop .inv) (c .before .before .before .before .before .before .before .pre) (c .before .before .loop-test .taken) (sym (c .before .is-fine .ensures) ∙ not-false _ (c .if1 .left))
+loop-again c =
+    let at-is-fine = c .before in
+    let at-loop-test = at-is-fine .before in
+    let at-loop = at-loop-test .before in
+    let at-pre = at-loop .before .before .before .before in
+    checking-next (at-loop .loop .inv) (at-pre .pre) (at-loop-test .loop-test .taken) (sym (at-is-fine .is-fine .ensures) ∙ not-false _ (c .if1 .left))
 
 returns-2 : tie.Need-returns-2 Inv-loop μ-loop
 returns-2 c = sym (checking-end (c .before .loop .inv) (c .loop-test .left))

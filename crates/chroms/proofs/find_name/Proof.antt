@@ -7,8 +7,8 @@ use Rattle.chroms.proofs.find_name.Statement.{statement}
 use Rattle.chroms.proofs.find_name.Tie as tie
 use Rattle.chroms.proofs.find_name.Reads as reads
 use Rattle.chroms.proofs.find_name.Lts as lts
-use Rattle.text.proofs.all_within.Reads as all-within-reads
-use Rattle.text.proofs.find_in.Reads as find-in-reads
+use Rattle.fields.proofs.all_within.Reads as all-within-reads
+use Rattle.fields.proofs.find_in.Reads as find-in-reads
 
 all-within-requires : tie.Need-all-within-requires
 all-within-requires c κs = search needs

@@ -7,7 +7,7 @@ use Rattle.chroms.proofs.length_at.Statement.{statement}
 use Rattle.chroms.proofs.length_at.Tie as tie
 use Rattle.chroms.proofs.length_at.Reads as reads
 use Rattle.chroms.proofs.length_at.Lts as lts
-use Rattle.text.proofs.number_at.Reads as number-at-reads
+use Rattle.fields.proofs.number_at.Reads as number-at-reads
 
 add-number-at : tie.Need-add-number-at
 add-number-at c = search needs
@@ -22,30 +22,49 @@ enum-known-n : tie.Need-enum-known-n
 enum-known-n c = search needs
 
 returns : tie.Need-returns
-returns c = two-none (c .before .before .before .before .before .before .pre .0) (c .before .before .before .before .before .before .pre .1) (c .before .before .before .before .before .before .pre .2) _ _ (sym (c .before .before .before .before .number-at .ensures) ∙ c .before .before .n .given .1) (c .if1 .taken)
+returns c =
+    let at-n = c .before .before in
+    let at-number-at = at-n .before .before in
+    let at-pre = at-number-at .before .before in
+    two-none (at-pre .pre .0) (at-pre .pre .1) (at-pre .pre .2) _ _ (sym (at-number-at .number-at .ensures) ∙ at-n .n .given .1) (c .if1 .taken)
 
 shared-slice-read-if2 : tie.Need-shared-slice-read-if2
 shared-slice-read-if2 c =
-    let f = length-to (c .before .before .before .before .before .before .before .pre .0) (c .before .before .before .before .before .before .before .pre .1) (c .before .before .before .before .before .before .before .pre .2) _ _ (sym (c .before .before .before .before .before .number-at .ensures) ∙ c .before .before .before .n .given .1) in
+    let at-n = c .before .before .before in
+    let at-number-at = at-n .before .before in
+    let at-pre = at-number-at .before .before in
+    let f = length-to (at-pre .pre .0) (at-pre .pre .1) (at-pre .pre .2) _ _ (sym (at-number-at .number-at .ensures) ∙ at-n .n .given .1) in
     omega (arith, f .inside)
 
 add-t14 : tie.Need-add-t14
 add-t14 c =
-    let f = length-to (c .before .before .before .before .before .before .before .before .pre .0) (c .before .before .before .before .before .before .before .before .pre .1) (c .before .before .before .before .before .before .before .before .pre .2) _ _ (sym (c .before .before .before .before .before .before .number-at .ensures) ∙ c .before .before .before .before .n .given .1) in
+    let at-n = c .before .before .before .before in
+    let at-number-at = at-n .before .before in
+    let at-pre = at-number-at .before .before in
+    let f = length-to (at-pre .pre .0) (at-pre .pre .1) (at-pre .pre .2) _ _ (sym (at-number-at .number-at .ensures) ∙ at-n .n .given .1) in
     omega (arith, f .inside)
 
 returns-2 : tie.Need-returns-2
 returns-2 c =
-    let f = length-to (c .before .before .before .before .before .before .before .before .pre .0) (c .before .before .before .before .before .before .before .before .pre .1) (c .before .before .before .before .before .before .before .before .pre .2) _ _ (sym (c .before .before .before .before .before .before .number-at .ensures) ∙ c .before .before .before .before .n .given .1) in
-    two-lf (c .before .before .before .before .before .before .before .before .pre .0) (c .before .before .before .before .before .before .before .before .pre .1) (c .before .before .before .before .before .before .before .before .pre .2) _ _ (sym (c .before .before .before .before .before .before .number-at .ensures) ∙ c .before .before .before .before .n .given .1) (omega (arith, f .inside)) (c .if2 .taken)
+    let at-n = c .before .before .before .before in
+    let at-number-at = at-n .before .before in
+    let at-pre = at-number-at .before .before in
+    let f = length-to (at-pre .pre .0) (at-pre .pre .1) (at-pre .pre .2) _ _ (sym (at-number-at .number-at .ensures) ∙ at-n .n .given .1) in
+    two-lf (at-pre .pre .0) (at-pre .pre .1) (at-pre .pre .2) _ _ (sym (at-number-at .number-at .ensures) ∙ at-n .n .given .1) (omega (arith, f .inside)) (c .if2 .taken)
 
 returns-3 : tie.Need-returns-3
-returns-3 c = two-bad (c .before .before .before .before .pre .0) (c .before .before .before .before .pre .1) (c .before .before .before .before .pre .2) (sym (c .before .before .number-at .ensures) ∙ c .enum-told .given .1)
+returns-3 c =
+    let at-number-at = c .before .before in
+    let at-pre = at-number-at .before .before in
+    two-bad (at-pre .pre .0) (at-pre .pre .1) (at-pre .pre .2) (sym (at-number-at .number-at .ensures) ∙ c .enum-told .given .1)
 
 returns-4 : tie.Need-returns-4
 returns-4 c =
-    let f = length-to (c .before .before .before .before .before .before .before .before .pre .0) (c .before .before .before .before .before .before .before .before .pre .1) (c .before .before .before .before .before .before .before .before .pre .2) _ _ (sym (c .before .before .before .before .before .before .number-at .ensures) ∙ c .before .before .before .before .n .given .1) in
-    three (c .before .before .before .before .before .before .before .before .pre .0) (c .before .before .before .before .before .before .before .before .pre .1) (c .before .before .before .before .before .before .before .before .pre .2) _ _ (sym (c .before .before .before .before .before .before .number-at .ensures) ∙ c .before .before .before .before .n .given .1) (omega (arith, f .inside)) (c .if2 .left)
+    let at-n = c .before .before .before .before in
+    let at-number-at = at-n .before .before in
+    let at-pre = at-number-at .before .before in
+    let f = length-to (at-pre .pre .0) (at-pre .pre .1) (at-pre .pre .2) _ _ (sym (at-number-at .number-at .ensures) ∙ at-n .n .given .1) in
+    three (at-pre .pre .0) (at-pre .pre .1) (at-pre .pre .2) _ _ (sym (at-number-at .number-at .ensures) ∙ at-n .n .given .1) (omega (arith, f .inside)) (c .if2 .left)
 
 pub length-at-spec : {M : Type 1} → statement M
 length-at-spec =

@@ -7,7 +7,7 @@ use Rattle.chroms.proofs.line_at.Tie as tie
 use Rattle.chroms.proofs.line_at.Reads as reads
 use Rattle.chroms.proofs.line_at.Lts as lts
 use Rattle.chroms.proofs.length_at.Reads as length-at-reads
-use Rattle.text.proofs.field_end.Reads as field-end-reads
+use Rattle.fields.proofs.field_end.Reads as field-end-reads
 
 field-end-requires : tie.Need-field-end-requires
 field-end-requires c κs = search needs

@@ -3,8 +3,8 @@ use Prim.Native.Nat.{_-_}
 use native.Mathlib.Omega.{arith}
 use lib.ListN.{length}
 use borrow.Author.Tests.{ne-eqb}
-use Rattle.text.proofs.Both.{and-no}
-use Rattle.text.proofs.Tables.{Filling, fill-start, fill-none, fill-pass, fill-put, fill-bad, fill-full, fill-end}
+use Rattle.fields.proofs.Both.{and-no}
+use Rattle.fields.proofs.Tables.{Filling, fill-start, fill-none, fill-pass, fill-put, fill-bad, fill-full, fill-end}
 use Rattle.chroms.specs.Entry.{entryOf, fromOf, toOf, lenOf}
 use Rattle.chroms.proofs.Entries.{line-not, line-is, line-next, list-read}
 use borrow.Author.Needs.{needs}
@@ -13,7 +13,7 @@ use Rattle.chroms.proofs.read_list.Tie as tie
 use Rattle.chroms.proofs.read_list.Reads as reads
 use Rattle.chroms.proofs.read_list.Lts as lts
 use Rattle.chroms.proofs.line_at.Reads as line-at-reads
-use Rattle.text.proofs.past.Reads as past-reads
+use Rattle.fields.proofs.past.Reads as past-reads
 
 abbrev Inv-loop : tie.InvT-loop
 Inv-loop text from₀ to₀ len₀ room end n₀ at₀ from to len n at = Filling entryOf fromOf toOf lenOf text from₀ to₀ len₀ from to len n at
@@ -58,7 +58,14 @@ same-length-3 : tie.Need-same-length-3 Inv-loop μ-loop
 same-length-3 c = search needs
 
 returns-3 : tie.Need-returns-3 Inv-loop μ-loop
-returns-3 c = fill-bad (c .before .before .before .before .before .before .loop .inv) _ (list-read _ _ _ _ (c .before .before .before .before .before .before .before .before .if1 .left) (c .before .before .before .before .before .before .before .if2 .left)) (c .before .before .before .before .past .ensures) (c .before .before .before .if3 .left) (line-not (c .before .before .line-at .ensures) (c .enum-told .given .1))
+returns-3 c =
+    let at-line-at = c .before .before in
+    let at-if3 = at-line-at .before in
+    let at-past = at-if3 .before in
+    let at-loop = at-past .before .before in
+    let at-if2 = at-loop .before in
+    let at-if1 = at-if2 .before in
+    fill-bad (at-loop .loop .inv) _ (list-read _ _ _ _ (at-if1 .if1 .left) (at-if2 .if2 .left)) (at-past .past .ensures) (at-if3 .if3 .left) (line-not (at-line-at .line-at .ensures) (c .enum-told .given .1))
 
 same-length-4 : tie.Need-same-length-4 Inv-loop μ-loop
 same-length-4 c = search needs
@@ -70,7 +77,15 @@ same-length-6 : tie.Need-same-length-6 Inv-loop μ-loop
 same-length-6 c = search needs
 
 returns-4 : tie.Need-returns-4 Inv-loop μ-loop
-returns-4 c = fill-full (c .before .before .before .before .before .before .before .before .loop .inv) _ (list-read _ _ _ _ (c .before .before .before .before .before .before .before .before .before .before .if1 .left) (c .before .before .before .before .before .before .before .before .before .if2 .left)) (c .before .before .before .before .before .before .past .ensures) (c .before .before .before .before .before .if3 .left) _ (line-is (c .before .before .before .before .line-at .ensures) (c .before .before .l .given .1)) (c .if4 .taken)
+returns-4 c =
+    let at-l = c .before .before in
+    let at-line-at = at-l .before .before in
+    let at-if3 = at-line-at .before in
+    let at-past = at-if3 .before in
+    let at-loop = at-past .before .before in
+    let at-if2 = at-loop .before in
+    let at-if1 = at-if2 .before in
+    fill-full (at-loop .loop .inv) _ (list-read _ _ _ _ (at-if1 .if1 .left) (at-if2 .if2 .left)) (at-past .past .ensures) (at-if3 .if3 .left) _ (line-is (at-line-at .line-at .ensures) (at-l .l .given .1)) (c .if4 .taken)
 
 mul-from : tie.Need-mul-from Inv-loop μ-loop
 mul-from c = search needs
@@ -97,7 +112,13 @@ loop-less-2 : tie.Need-loop-less-2 Inv-loop μ-loop
 loop-less-2 c = omega (arith, line-next (c .before .before .before .before .line-at .ensures) (c .before .before .l .given .1))
 
 loop-again-2 : tie.Need-loop-again-2 Inv-loop μ-loop
-loop-again-2 c = fill-put (c .before .before .before .before .before .before .before .before .loop .inv) (c .before .before .before .before .before .before .past .ensures) (c .before .before .before .before .before .if3 .left) (line-next (c .before .before .before .before .line-at .ensures) (c .before .before .l .given .1)) _ (line-is (c .before .before .before .before .line-at .ensures) (c .before .before .l .given .1)) (omega arith)
+loop-again-2 c =
+    let at-l = c .before .before in
+    let at-line-at = at-l .before .before in
+    let at-if3 = at-line-at .before in
+    let at-past = at-if3 .before in
+    let at-loop = at-past .before .before in
+    fill-put (at-loop .loop .inv) (at-past .past .ensures) (at-if3 .if3 .left) (line-next (at-line-at .line-at .ensures) (at-l .l .given .1)) _ (line-is (at-line-at .line-at .ensures) (at-l .l .given .1)) (omega arith)
 
 same-length-7 : tie.Need-same-length-7 Inv-loop μ-loop
 same-length-7 c = search needs

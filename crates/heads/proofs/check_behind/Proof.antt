@@ -12,25 +12,33 @@ use Rattle.heads.proofs.check_behind.Lts as lts
 use Rattle.heads.proofs.is_good.Reads as is-good-reads
 use Rattle.heads.proofs.is_ordered.Reads as is-ordered-reads
 
--- src/lib.rt:266:9
 is-good-requires : tie.Need-is-good-requires
 is-good-requires c κs = search needs
 
--- src/lib.rt:267:9
 is-ordered-requires : tie.Need-is-ordered-requires
 is-ordered-requires c κs = search needs
 
--- src/lib.rt:269:9
 returns : tie.Need-returns
-returns c = not-good (c .before .before .before .before .args .n) (some (bestRecord (c .before .before .before .before .args .h) .it)) (nextRecord (c .before .before .before .before .args .h .stream) (c .before .before .before .before .args .x)) (sym (c .before .before .is-good .ensures) ∙ not-true _ (c .if1 .taken))
+returns c =
+    let at-is-good = c .before .before in
+    let at-args = at-is-good .before .before in
+    not-good (at-args .args .n) (some (bestRecord (at-args .args .h) .it)) (nextRecord (at-args .args .h .stream) (at-args .args .x)) (sym (at-is-good .is-good .ensures) ∙ not-true _ (c .if1 .taken))
 
--- src/lib.rt:272:9
 returns-2 : tie.Need-returns-2
-returns-2 c = not-behind (c .before .before .before .before .before .args .n) (some (bestRecord (c .before .before .before .before .before .args .h) .it)) (nextRecord (c .before .before .before .before .before .args .h .stream) (c .before .before .before .before .before .args .x)) (sym (c .before .before .before .is-good .ensures) ∙ not-false _ (c .before .if1 .left)) (sym (c .before .before .is-ordered .ensures) ∙ not-true _ (c .if2 .taken))
+returns-2 c =
+    let at-if1 = c .before in
+    let at-is-ordered = at-if1 .before in
+    let at-is-good = at-is-ordered .before in
+    let at-args = at-is-good .before .before in
+    not-behind (at-args .args .n) (some (bestRecord (at-args .args .h) .it)) (nextRecord (at-args .args .h .stream) (at-args .args .x)) (sym (at-is-good .is-good .ensures) ∙ not-false _ (at-if1 .if1 .left)) (sym (at-is-ordered .is-ordered .ensures) ∙ not-true _ (c .if2 .taken))
 
--- src/lib.rt:262:1
 returns-3 : tie.Need-returns-3
-returns-3 c = in-order (c .before .before .before .before .before .args .n) (some (bestRecord (c .before .before .before .before .before .args .h) .it)) (nextRecord (c .before .before .before .before .before .args .h .stream) (c .before .before .before .before .before .args .x)) (sym (c .before .before .before .is-good .ensures) ∙ not-false _ (c .before .if1 .left)) (sym (c .before .before .is-ordered .ensures) ∙ not-false _ (c .if2 .left))
+returns-3 c =
+    let at-if1 = c .before in
+    let at-is-ordered = at-if1 .before in
+    let at-is-good = at-is-ordered .before in
+    let at-args = at-is-good .before .before in
+    in-order (at-args .args .n) (some (bestRecord (at-args .args .h) .it)) (nextRecord (at-args .args .h .stream) (at-args .args .x)) (sym (at-is-good .is-good .ensures) ∙ not-false _ (at-if1 .if1 .left)) (sym (at-is-ordered .is-ordered .ensures) ∙ not-false _ (c .if2 .left))
 
 pub check-behind-spec : {M : Type 1} → statement M
 check-behind-spec =

@@ -10,15 +10,12 @@ use Rattle.heads.proofs.check_first.Reads as reads
 use Rattle.heads.proofs.check_first.Lts as lts
 use Rattle.heads.proofs.is_good.Reads as is-good-reads
 
--- src/lib.rt:255:8
 is-good-requires : tie.Need-is-good-requires
 is-good-requires c κs = search needs
 
--- src/lib.rt:256:9
 returns : tie.Need-returns
 returns c = in-order (c .before .before .args .n) none (nextRecord (c .before .before .args .k) (c .before .before .args .x)) (sym (c .before .is-good .ensures) ∙ c .if1 .taken) refl
 
--- src/lib.rt:252:1
 returns-2 : tie.Need-returns-2
 returns-2 c = not-good (c .before .before .args .n) none (nextRecord (c .before .before .args .k) (c .before .before .args .x)) (sym (c .before .is-good .ensures) ∙ c .if1 .left)
 

@@ -27,29 +27,31 @@ wrongHere c = fault (c .args .n) (some (bestRecord (c .args .h) .it)) (rowHere c
 seen : (c : tie.After-check-behind) → c .check-behind .result ≡ checkOf (wrongHere (c .before .before .before .before .before))
 seen c = c .check-behind .ensures ∙ rw (c .before .read-row .ensures)
 
--- src/lib.rt:305:9
 read-row-requires : tie.Need-read-row-requires
 read-row-requires c κs = search needs
 
--- src/lib.rt:306:9
 check-behind-requires : tie.Need-check-behind-requires
 check-behind-requires c κs = search needs
 
--- src/lib.rt:308:22
 enum-known-w : tie.Need-enum-known-w
 enum-known-w c = search needs
 
--- src/lib.rt:309:24
 enum-told : tie.Need-enum-told
 enum-told c = search needs
 
--- src/lib.rt:292:1
 returns : tie.Need-returns
-returns c = followed-wrong (c .before .before .before .before .before .before .before .before .args .t) (c .before .before .before .before .before .before .before .before .args .at + 1) (wrongHere (c .before .before .before .before .before .before .before .before)) (rowHere (c .before .before .before .before .before .before .before .before)) (seen (c .before .before .before)) (c .before .w .given .1)
+returns c =
+    let at-w = c .before in
+    let at-then = at-w .before .before in
+    let at-args = at-then .before .before .before .before .before in
+    followed-wrong (at-args .args .t) (at-args .args .at + 1) (wrongHere (at-args)) (rowHere (at-args)) (seen (at-then)) (at-w .w .given .1)
 
--- src/lib.rt:292:1
 returns-2 : tie.Need-returns-2
-returns-2 c = followed-fine (c .before .before .before .before .before .before .before .args .t) (c .before .before .before .before .before .before .before .args .at + 1) (wrongHere (c .before .before .before .before .before .before .before)) (rowHere (c .before .before .before .before .before .before .before)) (seen (c .before .before)) (c .enum-told .given .1) (c .before .before .before .read-row .ensures)
+returns-2 c =
+    let at-then = c .before .before in
+    let at-read-row = at-then .before in
+    let at-args = at-read-row .before .before .before .before in
+    followed-fine (at-args .args .t) (at-args .args .at + 1) (wrongHere (at-args)) (rowHere (at-args)) (seen (at-then)) (c .enum-told .given .1) (at-read-row .read-row .ensures)
 
 pub follow-spec : {M : Type 1} → statement M
 follow-spec =

@@ -5,11 +5,9 @@ use Rattle.heads.proofs.is_good.Tie as tie
 use Rattle.heads.proofs.is_good.Reads as reads
 use Rattle.heads.proofs.is_good.Lts as lts
 
--- src/lib.rt:231:9
 returns : tie.Need-returns
 returns c = rw (le-ltb _ _ (c .if1 .taken))
 
--- src/lib.rt:226:1
 returns-2 : tie.Need-returns-2
 returns-2 c = rw (lt-ltb _ _ (c .before .if1 .left))
 

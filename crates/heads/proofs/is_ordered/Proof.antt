@@ -1,20 +1,17 @@
 -- `is_ordered` meets its contract.
 use mathlib.Core.Path.{sym}
-use Rattle.lists.proofs.LexLaws.{lex-below, lex-above, lex-tie}
+use Rattle.basics.proofs.LexLaws.{lex-below, lex-above, lex-tie}
 use Rattle.heads.proofs.is_ordered.Statement.{statement}
 use Rattle.heads.proofs.is_ordered.Tie as tie
 use Rattle.heads.proofs.is_ordered.Reads as reads
 use Rattle.heads.proofs.is_ordered.Lts as lts
 
--- src/lib.rt:243:9
 returns : tie.Need-returns
 returns c = sym (lex-below _ _ _ (c .if1 .taken))
 
--- src/lib.rt:246:9
 returns-2 : tie.Need-returns-2
 returns-2 c = sym (lex-above _ _ _ (c .if2 .taken))
 
--- src/lib.rt:237:1
 returns-3 : tie.Need-returns-3
 returns-3 c = sym (lex-tie _ _ _ (c .before .before .before .before .before .if1 .left) (c .before .before .if2 .left))
 

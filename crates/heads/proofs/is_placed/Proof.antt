@@ -6,7 +6,7 @@ use borrow.Author.Needs.{needs}
 use borrow.Author.Count.{below-more}
 use lib.ListN.{getD}
 use denote.Ref.{now}
-use Rattle.lists.proofs.BoolLaws.{says-yes, says-no}
+use Rattle.basics.proofs.BoolLaws.{says-yes, says-no}
 use Rattle.heads.specs.Move.{PlacedIn}
 use Rattle.heads.proofs.is_placed.Statement.{statement}
 use Rattle.heads.proofs.is_placed.Tie as tie
@@ -19,67 +19,58 @@ Inv-loop streams next from to chroms starts stops k₀ k = PlacedIn chroms start
 abbrev μ-loop : tie.MeasureT-loop
 μ-loop streams next from to chroms starts stops k₀ k = streams - k
 
--- src/lib.rt:326:9
 returns : tie.Need-returns Inv-loop μ-loop
 returns c = says-no (λ p. omega (arith, p .few))
 
--- src/lib.rt:329:9
 returns-2 : tie.Need-returns-2 Inv-loop μ-loop
 returns-2 c = says-no (λ p. c .if2 .taken (p .starts))
 
--- src/lib.rt:332:9
 returns-3 : tie.Need-returns-3 Inv-loop μ-loop
 returns-3 c = says-no (λ p. c .if3 .taken (p .stops))
 
--- src/lib.rt:335:5
 loop-holds : tie.Need-loop-holds Inv-loop μ-loop
 loop-holds c = (record { few = omega arith; starts = search needs; stops = search needs; low = λ j b. absurd (omega (arith, b)); high = λ j b. absurd (omega (arith, b)) }, omega arith, omega arith)
 
--- src/lib.rt:336:12
 mul-if4 : tie.Need-mul-if4 Inv-loop μ-loop
 mul-if4 c = search needs
 
--- src/lib.rt:336:12
 element-copy-out-if4 : tie.Need-element-copy-out-if4 Inv-loop μ-loop
 element-copy-out-if4 c = search needs
 
--- src/lib.rt:336:22
 mul-if4-2 : tie.Need-mul-if4-2 Inv-loop μ-loop
 mul-if4-2 c = search needs
 
--- src/lib.rt:336:22
 element-copy-out-if4-2 : tie.Need-element-copy-out-if4-2 Inv-loop μ-loop
 element-copy-out-if4-2 c = search needs
 
--- src/lib.rt:337:13
 returns-4 : tie.Need-returns-4 Inv-loop μ-loop
 returns-4 c = says-no (λ p. omega (arith, p .low (c .before .before .before .before .loop .k) (c .before .before .before .loop-test .taken), c .if4 .taken))
 
--- src/lib.rt:339:21
 mul-if5 : tie.Need-mul-if5 Inv-loop μ-loop
 mul-if5 c = search needs
 
--- src/lib.rt:339:21
 element-copy-out-if5 : tie.Need-element-copy-out-if5 Inv-loop μ-loop
 element-copy-out-if5 c = search needs
 
--- src/lib.rt:340:13
 returns-5 : tie.Need-returns-5 Inv-loop μ-loop
-returns-5 c = says-no (λ p. omega (arith, p .high (c .before .before .before .before .before .before .loop .k) (c .before .before .before .before .before .loop-test .taken), c .if5 .taken))
+returns-5 c =
+    let at-loop-test = c .before .before .before .before .before in
+    let at-loop = at-loop-test .before in
+    says-no (λ p. omega (arith, p .high (at-loop .loop .k) (at-loop-test .loop-test .taken), c .if5 .taken))
 
--- src/lib.rt:342:9
 add-k : tie.Need-add-k Inv-loop μ-loop
 add-k c = search needs
 
--- src/lib.rt:335:5
 loop-less : tie.Need-loop-less Inv-loop μ-loop
 loop-less c = search needs
 
--- src/lib.rt:335:5
 loop-again : tie.Need-loop-again Inv-loop μ-loop
-loop-again c = let i = c .before .before .before .before .before .before .loop .inv in let a = c .before .before .before .before .before .before .before .before .before .before .args in (record { few = omega arith; starts = i .0 .starts; stops = i .0 .stops; low = below-more (λ (j : ℕ). getD (now (a .from)) j 0 ≤ getD (now (a .next)) j 0) (c .before .before .before .before .before .before .loop .k) (i .0 .low) (c .before .before .if4 .left); high = below-more (λ (j : ℕ). getD (now (a .to)) j 0 ≤ a .chroms) (c .before .before .before .before .before .before .loop .k) (i .0 .high) (c .if5 .left) }, omega arith, omega arith)
+loop-again c =
+    let at-if4 = c .before .before in
+    let at-loop = at-if4 .before .before .before .before in
+    let at-args = at-loop .before .before .before .before in
+    let i = at-loop .loop .inv in let a = at-args .args in (record { few = omega arith; starts = i .0 .starts; stops = i .0 .stops; low = below-more (λ (j : ℕ). getD (now (a .from)) j 0 ≤ getD (now (a .next)) j 0) (at-loop .loop .k) (i .0 .low) (at-if4 .if4 .left); high = below-more (λ (j : ℕ). getD (now (a .to)) j 0 ≤ a .chroms) (at-loop .loop .k) (i .0 .high) (c .if5 .left) }, omega arith, omega arith)
 
--- src/lib.rt:314:1
 returns-6 : tie.Need-returns-6 Inv-loop μ-loop
 returns-6 c = let i = c .before .loop .inv in let e : c .before .loop .k ≡ c .before .before .before .before .before .args .streams = omega arith in says-yes (rw e at (i .0))
 

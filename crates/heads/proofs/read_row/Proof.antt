@@ -4,45 +4,34 @@ use Rattle.heads.proofs.read_row.Statement.{statement}
 use Rattle.heads.proofs.read_row.Tie as tie
 use Rattle.heads.proofs.read_row.Reads as reads
 use Rattle.heads.proofs.read_row.Lts as lts
-use Rattle.heads.proofs.number.Reads as number-reads
 
--- src/lib.rt:283:22
 mul-t6 : tie.Need-mul-t6
 mul-t6 c = search needs
 
--- src/lib.rt:283:22
 shared-slice-read-t8 : tie.Need-shared-slice-read-t8
 shared-slice-read-t8 c = search needs
 
--- src/lib.rt:284:16
 mul-t10 : tie.Need-mul-t10
 mul-t10 c = search needs
 
--- src/lib.rt:284:16
 shared-slice-read-t12 : tie.Need-shared-slice-read-t12
 shared-slice-read-t12 c = search needs
 
--- src/lib.rt:285:15
 mul-t13 : tie.Need-mul-t13
 mul-t13 c = search needs
 
--- src/lib.rt:285:15
 shared-slice-read-t15 : tie.Need-shared-slice-read-t15
 shared-slice-read-t15 c = search needs
 
--- src/lib.rt:286:21
 sub-number : tie.Need-sub-number
 sub-number c = search needs
 
--- src/lib.rt:286:14
 number-requires : tie.Need-number-requires
 number-requires c κs = search needs
 
--- src/lib.rt:287:15
 add-t18 : tie.Need-add-t18
 add-t18 c = search needs
 
--- src/lib.rt:278:1
 returns : tie.Need-returns
 returns c = rw (c .number .ensures)
 

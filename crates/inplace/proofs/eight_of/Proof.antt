@@ -27,7 +27,15 @@ at-or-zero-requires-8 : tie.Need-at-or-zero-requires-8
 at-or-zero-requires-8 c κs = tt
 
 returns : tie.Need-returns
-returns c = rw (c .before .before .before .before .before .before .before .at-or-zero .ensures, c .before .before .before .before .before .before .at-or-zero2 .ensures, c .before .before .before .before .before .at-or-zero3 .ensures, c .before .before .before .before .at-or-zero4 .ensures, c .before .before .before .at-or-zero5 .ensures, c .before .before .at-or-zero6 .ensures, c .before .at-or-zero7 .ensures, c .at-or-zero8 .ensures)
+returns c =
+    let at-at-or-zero7 = c .before in
+    let at-at-or-zero6 = at-at-or-zero7 .before in
+    let at-at-or-zero5 = at-at-or-zero6 .before in
+    let at-at-or-zero4 = at-at-or-zero5 .before in
+    let at-at-or-zero3 = at-at-or-zero4 .before in
+    let at-at-or-zero2 = at-at-or-zero3 .before in
+    let at-at-or-zero = at-at-or-zero2 .before in
+    rw (at-at-or-zero .at-or-zero .ensures, at-at-or-zero2 .at-or-zero2 .ensures, at-at-or-zero3 .at-or-zero3 .ensures, at-at-or-zero4 .at-or-zero4 .ensures, at-at-or-zero5 .at-or-zero5 .ensures, at-at-or-zero6 .at-or-zero6 .ensures, at-at-or-zero7 .at-or-zero7 .ensures, c .at-or-zero8 .ensures)
 
 pub eight-of-spec : {M : Type 1} → statement M
 eight-of-spec =

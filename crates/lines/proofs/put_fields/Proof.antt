@@ -32,7 +32,11 @@ loop-less : tie.Need-loop-less Inv-loop μ-loop
 loop-less c = search needs
 
 loop-again : tie.Need-loop-again Inv-loop μ-loop
-loop-again c = writing-field (c .before .before .before .before .before .before .loop .inv) (c .before .before .before .before .before .before .before .before .before .pre) (omega arith) (c .before .before .put-field .ensures)
+loop-again c =
+    let at-put-field = c .before .before in
+    let at-loop = at-put-field .before .before .before .before in
+    let at-pre = at-loop .before .before .before in
+    writing-field (at-loop .loop .inv) (at-pre .pre) (omega arith) (at-put-field .put-field .ensures)
 
 same-length : tie.Need-same-length Inv-loop μ-loop
 same-length c = search needs

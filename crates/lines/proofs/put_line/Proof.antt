@@ -49,11 +49,11 @@ same-length c = search needs
 
 returns-3 : tie.Need-returns-3
 returns-3 c =
-    let written = c .before .before .before .before .before .before .before .before .before .before .before in
+    let at-then = c .before .before .before .before .before .before .before .before .before .before .before in
     puts-parts
     (omega arith)
-    (written .before .before .before .before .put-bytes .ensures)
-    (written .put-bytes2 .ensures)
+    (at-then .before .before .before .before .put-bytes .ensures)
+    (at-then .put-bytes2 .ensures)
     (c .before .before .before .before .before .before .before .put-fields .ensures)
     (c .before .before .put-bytes3 .ensures)
 

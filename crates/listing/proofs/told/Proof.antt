@@ -5,19 +5,15 @@ use Rattle.listing.proofs.told.Tie as tie
 use Rattle.listing.proofs.told.Reads as reads
 use Rattle.listing.proofs.told.Lts as lts
 
--- src/lib.rt:191:21
 enum-known-l : tie.Need-enum-known-l
 enum-known-l c = search needs
 
--- src/lib.rt:195:20
 enum-known-l-2 : tie.Need-enum-known-l-2
 enum-known-l-2 c = search needs
 
--- src/lib.rt:187:1
 returns : tie.Need-returns
 returns c = rw (c .before .l .given .1)
 
--- src/lib.rt:187:1
 returns-2 : tie.Need-returns-2
 returns-2 c = rw (c .before .l2 .given .1)
 

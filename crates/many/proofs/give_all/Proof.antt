@@ -1,26 +1,14 @@
--- `give_all` meets its contract: the first base by the call for one, the others behind it.
-use Rattle.many.proofs.give_all.Statement.{statement}
-use Rattle.many.proofs.give_all.Tie as tie
-use Rattle.many.proofs.give_all.Reads as reads
-use Rattle.many.proofs.give_all.Lts as lts
-use Rattle.many.proofs.are_even.Reads as are-even-reads
-use Rattle.many.proofs.base_at.Reads as base-at-reads
-use Rattle.many.proofs.rest.Reads as rest-reads
-use Rattle.sweep.proofs.Run.give.Reads as give-reads
-use mathlib.Core.Path.{_≡_, refl, sym, _∙_}
-use Prim.Native.Nat.{_<_}
+-- `give_all` meets its contract: its tests, and then its loop.
+use mathlib.Core.Path.{sym, _∙_}
 use native.Mathlib.Omega.{arith}
-use lib.ListN.{length, length-set}
 use denote.Ref.{now}
 use borrow.Author.Needs.{needs}
 use borrow.Author.Tests.{not-true, not-false}
 use Rattle.heads.specs.View.{Cols, cols}
-use Rattle.heads.specs.Move.{Shaped}
-use Rattle.queue.specs.Ring.{cells}
 use Rattle.pulls.specs.Pulls.{Lent, lent}
-use Rattle.sweep.specs.View.{headsOf}
-use Rattle.many.specs.Many.{Even}
-use Rattle.many.proofs.Beginning.{even-so, uneven-so, none-given, first-other, begun-first, then-rest, refused-all}
+use Rattle.many.proofs.Whole.{told-going, none-given, over-given, uneven-given, wrong-given, passable, passed-given}
+use Rattle.many.proofs.give_all.Statement.{statement}
+use Rattle.many.proofs.give_all.Tie as tie
 
 -- what was lent and given
 abbrev sc : tie.Start → Cols
@@ -30,181 +18,123 @@ abbrev bc : tie.Start → Cols
 bc c = cols (now (c .args .bchrom)) (now (c .args .bstart)) (now (c .args .bstop))
 
 abbrev le : tie.Start → Lent
-le c = lent (cells (now (c .args .qstream)) (now (c .args .qrow)) (now (c .args .qstart)) (now (c .args .qstop))) (now (c .args .streams)) (now (c .args .rows))
+le c = lent (now (c .args .queue)) (now (c .args .answers))
 
--- each array of the run has its eight places
-shaped : (c : tie.Start) → Shaped (headsOf (c .args .run))
-shaped c = record { chrom = search needs; start = search needs; stop = search needs; row = search needs; ended = search needs; next = let g = c .good .0 .1 .1 .1 .1 .1 .1 .1 .0 in search (needs, g) }
-
--- the columns were tested
-even : (c : tie.Else1) → Even (bc (c .before .before .before .before .before .before .before .before .before .before .before .before .before .before .before .before)) (now (c .before .before .before .before .before .before .before .before .before .before .before .before .before .before .before .before .args .counts))
-even c = even-so (bc (c .before .before .before .before .before .before .before .before .before .before .before .before .before .before .before .before)) (now (c .before .before .before .before .before .before .before .before .before .before .before .before .before .before .before .before .args .counts)) _ (c .before .are-even .ensures) (not-false _ (c .if1 .left))
-
--- there is a base
-below : (c : tie.Else2) → 0 < length (now (c .before .before .before .before .before .before .before .before .before .before .before .before .before .before .before .before .before .args .bchrom))
-below c = omega (arith, c .if2 .left)
-
--- src/lib.rt:304:9
 are-even-requires : tie.Need-are-even-requires
 are-even-requires c κs = search needs
 
--- src/lib.rt:305:9
+none-passed-requires : tie.Need-none-passed-requires
+none-passed-requires c κs = search needs
+
 returns : tie.Need-returns
-returns c = refused-all (sc (c .before .before .before .before .before .before .before .before .before .before .before .before .before .before .before .before)) (now (c .before .before .before .before .before .before .before .before .before .before .before .before .before .before .before .before .args .lengths)) (bc (c .before .before .before .before .before .before .before .before .before .before .before .before .before .before .before .before)) (c .before .before .before .before .before .before .before .before .before .before .before .before .before .before .before .before .args .run) (le (c .before .before .before .before .before .before .before .before .before .before .before .before .before .before .before .before)) (now (c .before .before .before .before .before .before .before .before .before .before .before .before .before .before .before .before .args .counts)) (uneven-so (bc (c .before .before .before .before .before .before .before .before .before .before .before .before .before .before .before .before)) (now (c .before .before .before .before .before .before .before .before .before .before .before .before .before .before .before .before .args .counts)) _ (c .before .are-even .ensures) (not-true _ (c .if1 .taken)))
+returns c =
+    let at-if1 = c .before in
+    let at-are-even = at-if1 .before in
+    let at-args = at-are-even .before .before .before .before .before .before .before .before .before in
+    none-given (sc (at-args)) (now (at-args .args .lengths)) (bc (at-args)) (at-args .args .run) (le (at-args)) (now (at-args .args .counts)) (at-are-even .are-even .result) (at-are-even .are-even .ensures) (at-if1 .if1 .taken) _ (c .none-passed .ensures)
 
--- src/lib.rt:313:9
+stage-requires : tie.Need-stage-requires
+stage-requires c κs = search needs
+
+enum-known-stage : tie.Need-enum-known-stage
+enum-known-stage c = search needs
+
+none-passed-requires-2 : tie.Need-none-passed-requires-2
+none-passed-requires-2 c κs = search needs
+
 returns-2 : tie.Need-returns-2
-returns-2 c = none-given (sc (c .before .before .before .before .before .before .before .before .before .before .before .before .before .before .before .before .before)) (now (c .before .before .before .before .before .before .before .before .before .before .before .before .before .before .before .before .before .args .lengths)) (bc (c .before .before .before .before .before .before .before .before .before .before .before .before .before .before .before .before .before)) (c .before .before .before .before .before .before .before .before .before .before .before .before .before .before .before .before .before .args .run) (le (c .before .before .before .before .before .before .before .before .before .before .before .before .before .before .before .before .before)) (now (c .before .before .before .before .before .before .before .before .before .before .before .before .before .before .before .before .before .args .counts)) (even (c .before)) (c .if2 .taken)
+returns-2 c =
+    let at-stage2 = c .before .before in
+    let at-stage = at-stage2 .before .before in
+    let at-if1 = at-stage .before in
+    let at-are-even = at-if1 .before in
+    let at-args = at-are-even .before .before .before .before .before .before .before .before .before in
+    over-given (sc (at-args)) (now (at-args .args .lengths)) (bc (at-args)) (at-args .args .run) (le (at-args)) (now (at-args .args .counts)) (at-are-even .are-even .result) (at-are-even .are-even .ensures) (at-if1 .if1 .left) _ (sym (at-stage .stage .ensures) ∙ at-stage2 .stage2 .given .1) _ (c .none-passed2 .ensures)
 
--- src/lib.rt:320:9
-base-at-requires : tie.Need-base-at-requires
-base-at-requires c κs = ((below (c)), omega (arith, (below (c)), (even (c .before)) .starts), omega (arith, (below (c)), (even (c .before)) .stops))
+none-passed-requires-3 : tie.Need-none-passed-requires-3
+none-passed-requires-3 c κs = search needs
 
--- src/lib.rt:321:9
-give-requires : tie.Need-give-requires
-give-requires c κs = search needs
-
--- src/lib.rt:327:23
-enum-known-answer : tie.Need-enum-known-answer
-enum-known-answer c = search needs
-
--- src/lib.rt:328:13
-slice-write-counts : tie.Need-slice-write-counts
-slice-write-counts c = omega (arith, (below (c .before .before .before .before .before .before .before .before .before .before .before .before .before .before .before .before .before .before .before .before .before .before .before .before)), (even (c .before .before .before .before .before .before .before .before .before .before .before .before .before .before .before .before .before .before .before .before .before .before .before .before .before)) .counts)
-
--- src/lib.rt:329:13
-rest-requires : tie.Need-rest-requires
-rest-requires c κs = begun-first (sc (c .before .before .before .before .before .before .before .before .before .before .before .before .before .before .before .before .before .before .before .before .before .before .before .before .before .before .before .before .before .before .before .before .before .before .before .before .before .before .before .before .before .before .before .before .before .before .before .before)) (now (c .before .before .before .before .before .before .before .before .before .before .before .before .before .before .before .before .before .before .before .before .before .before .before .before .before .before .before .before .before .before .before .before .before .before .before .before .before .before .before .before .before .before .before .before .before .before .before .before .args .lengths)) (bc (c .before .before .before .before .before .before .before .before .before .before .before .before .before .before .before .before .before .before .before .before .before .before .before .before .before .before .before .before .before .before .before .before .before .before .before .before .before .before .before .before .before .before .before .before .before .before .before .before)) (c .before .before .before .before .before .before .before .before .before .before .before .before .before .before .before .before .before .before .before .before .before .before .before .before .before .before .before .before .before .before .before .before .before .before .before .before .before .before .before .before .before .before .before .before .before .before .before .before .args .run) (le (c .before .before .before .before .before .before .before .before .before .before .before .before .before .before .before .before .before .before .before .before .before .before .before .before .before .before .before .before .before .before .before .before .before .before .before .before .before .before .before .before .before .before .before .before .before .before .before .before)) (now (c .before .before .before .before .before .before .before .before .before .before .before .before .before .before .before .before .before .before .before .before .before .before .before .before .before .before .before .before .before .before .before .before .before .before .before .before .before .before .before .before .before .before .before .before .before .before .before .before .args .counts)) (even (c .before .before .before .before .before .before .before .before .before .before .before .before .before .before .before .before .before .before .before .before .before .before .before .before .before .before .before .before .before .before .before .before)) (below (c .before .before .before .before .before .before .before .before .before .before .before .before .before .before .before .before .before .before .before .before .before .before .before .before .before .before .before .before .before .before .before)) (shaped (c .before .before .before .before .before .before .before .before .before .before .before .before .before .before .before .before .before .before .before .before .before .before .before .before .before .before .before .before .before .before .before .before .before .before .before .before .before .before .before .before .before .before .before .before .before .before .before .before)) _ (c .before .before .before .before .before .before .before .before .before .before .before .before .before .before .before .before .before .before .before .before .before .before .before .before .before .before .before .before .before .before .base-at .ensures) _ _ _ (c .before .before .before .before .before .before .before .before .before .before .before .before .before .before .before .before .before .before .before .before .before .before .before .give .ensures) (omega (arith, c .before .before .before .before .before .before .before .before .before .before .before .before .before .before .before .before .before .before .before .before .before .before .before .give .kept)) (omega (arith, c .before .before .before .before .before .before .before .before .before .before .before .before .before .before .before .before .before .before .before .before .before .before .before .give .kept)) _ _ (c .before .before .before .before .before .before .before .before .answer .given .1)
-
--- src/lib.rt:334:25
-enum-known-answer-2 : tie.Need-enum-known-answer-2
-enum-known-answer-2 c = search needs
-
--- src/lib.rt:340:23
-enum-known-answer-3 : tie.Need-enum-known-answer-3
-enum-known-answer-3 c = search needs
-
--- src/lib.rt:282:1
-same-length : tie.Need-same-length
-same-length c = omega (arith, c .before .before .before .before .before .before .before .before .before .before .before .before .before .before .before .before .before .before .before .before .before .before .before .before .before .before .before .before .before .before .before .before .before .before .before .before .before .before .give .kept, c .before .before .before .before .before .before .before .before .before .before .before .before .before .before .rest .kept)
-
--- src/lib.rt:282:1
-same-length-2 : tie.Need-same-length-2
-same-length-2 c = omega (arith, c .before .before .before .before .before .before .before .before .before .before .before .before .before .before .before .before .before .before .before .before .before .before .before .before .before .before .before .before .before .before .before .before .before .before .before .before .before .before .give .kept, c .before .before .before .before .before .before .before .before .before .before .before .before .before .before .rest .kept)
-
--- src/lib.rt:282:1
-same-length-3 : tie.Need-same-length-3
-same-length-3 c = omega (arith, c .before .before .before .before .before .before .before .before .before .before .before .before .before .before .before .before .before .before .before .before .before .before .before .before .before .before .before .before .before .before .before .before .before .before .before .before .before .before .give .kept, c .before .before .before .before .before .before .before .before .before .before .before .before .before .before .rest .kept)
-
--- src/lib.rt:282:1
-same-length-4 : tie.Need-same-length-4
-same-length-4 c = omega (arith, c .before .before .before .before .before .before .before .before .before .before .before .before .before .before .before .before .before .before .before .before .before .before .before .before .before .before .before .before .before .before .before .before .before .before .before .before .before .before .give .kept, c .before .before .before .before .before .before .before .before .before .before .before .before .before .before .rest .kept)
-
--- src/lib.rt:282:1
-same-length-5 : tie.Need-same-length-5
-same-length-5 c = omega (arith, c .before .before .before .before .before .before .before .before .before .before .before .before .before .before .before .before .before .before .before .before .before .before .before .before .before .before .before .before .before .before .before .before .before .before .before .before .before .before .give .kept, c .before .before .before .before .before .before .before .before .before .before .before .before .before .before .rest .kept)
-
--- src/lib.rt:282:1
-same-length-6 : tie.Need-same-length-6
-same-length-6 c = omega (arith, c .before .before .before .before .before .before .before .before .before .before .before .before .before .before .before .before .before .before .before .before .before .before .before .before .before .before .before .before .before .before .before .before .before .before .before .before .before .before .give .kept, c .before .before .before .before .before .before .before .before .before .before .before .before .before .before .rest .kept)
-
--- src/lib.rt:282:1
-same-length-7 : tie.Need-same-length-7
-same-length-7 c = omega (arith, c .before .before .before .before .before .before .before .before .before .before .before .before .before .before .rest .kept, length-set (now (c .before .before .before .before .before .before .before .before .before .before .before .before .before .before .before .before .before .before .before .before .before .before .before .before .before .before .before .before .before .before .before .before .before .before .before .before .before .before .before .before .before .before .before .before .before .before .before .before .before .before .before .before .before .before .before .before .before .before .before .before .before .before .before .args .counts)) 0 (c .before .before .before .before .before .before .before .before .before .before .before .before .before .before .before .before .before .before .before .before .before .before .before .answer .given .0 .0))
-
--- src/lib.rt:282:1
 returns-3 : tie.Need-returns-3
-returns-3 c = then-rest (sc (c .before .before .before .before .before .before .before .before .before .before .before .before .before .before .before .before .before .before .before .before .before .before .before .before .before .before .before .before .before .before .before .before .before .before .before .before .before .before .before .before .before .before .before .before .before .before .before .before .before .before .before .before .before .before .before .before .before .before .before .before .before .before .before)) (now (c .before .before .before .before .before .before .before .before .before .before .before .before .before .before .before .before .before .before .before .before .before .before .before .before .before .before .before .before .before .before .before .before .before .before .before .before .before .before .before .before .before .before .before .before .before .before .before .before .before .before .before .before .before .before .before .before .before .before .before .before .before .before .before .args .lengths)) (bc (c .before .before .before .before .before .before .before .before .before .before .before .before .before .before .before .before .before .before .before .before .before .before .before .before .before .before .before .before .before .before .before .before .before .before .before .before .before .before .before .before .before .before .before .before .before .before .before .before .before .before .before .before .before .before .before .before .before .before .before .before .before .before .before)) (c .before .before .before .before .before .before .before .before .before .before .before .before .before .before .before .before .before .before .before .before .before .before .before .before .before .before .before .before .before .before .before .before .before .before .before .before .before .before .before .before .before .before .before .before .before .before .before .before .before .before .before .before .before .before .before .before .before .before .before .before .before .before .before .args .run) (le (c .before .before .before .before .before .before .before .before .before .before .before .before .before .before .before .before .before .before .before .before .before .before .before .before .before .before .before .before .before .before .before .before .before .before .before .before .before .before .before .before .before .before .before .before .before .before .before .before .before .before .before .before .before .before .before .before .before .before .before .before .before .before .before)) (now (c .before .before .before .before .before .before .before .before .before .before .before .before .before .before .before .before .before .before .before .before .before .before .before .before .before .before .before .before .before .before .before .before .before .before .before .before .before .before .before .before .before .before .before .before .before .before .before .before .before .before .before .before .before .before .before .before .before .before .before .before .before .before .before .args .counts)) (even (c .before .before .before .before .before .before .before .before .before .before .before .before .before .before .before .before .before .before .before .before .before .before .before .before .before .before .before .before .before .before .before .before .before .before .before .before .before .before .before .before .before .before .before .before .before .before .before)) (below (c .before .before .before .before .before .before .before .before .before .before .before .before .before .before .before .before .before .before .before .before .before .before .before .before .before .before .before .before .before .before .before .before .before .before .before .before .before .before .before .before .before .before .before .before .before .before)) (shaped (c .before .before .before .before .before .before .before .before .before .before .before .before .before .before .before .before .before .before .before .before .before .before .before .before .before .before .before .before .before .before .before .before .before .before .before .before .before .before .before .before .before .before .before .before .before .before .before .before .before .before .before .before .before .before .before .before .before .before .before .before .before .before .before)) _ (c .before .before .before .before .before .before .before .before .before .before .before .before .before .before .before .before .before .before .before .before .before .before .before .before .before .before .before .before .before .before .before .before .before .before .before .before .before .before .before .before .before .before .before .before .before .base-at .ensures) _ _ _ (c .before .before .before .before .before .before .before .before .before .before .before .before .before .before .before .before .before .before .before .before .before .before .before .before .before .before .before .before .before .before .before .before .before .before .before .before .before .before .give .ensures) (omega (arith, c .before .before .before .before .before .before .before .before .before .before .before .before .before .before .before .before .before .before .before .before .before .before .before .before .before .before .before .before .before .before .before .before .before .before .before .before .before .before .give .kept)) (omega (arith, c .before .before .before .before .before .before .before .before .before .before .before .before .before .before .before .before .before .before .before .before .before .before .before .before .before .before .before .before .before .before .before .before .before .before .before .before .before .before .give .kept)) _ _ (c .before .before .before .before .before .before .before .before .before .before .before .before .before .before .before .before .before .before .before .before .before .before .before .answer .given .1) _ _ _ (c .before .before .before .before .before .before .before .before .before .before .before .before .before .before .rest .ensures)
+returns-3 c =
+    let at-if2 = c .before in
+    let at-match = at-if2 .before in
+    let at-stage = at-match .before in
+    let at-are-even = at-stage .before .before in
+    let at-args = at-are-even .before .before .before .before .before .before .before .before .before in
+    uneven-given (sc (at-args)) (now (at-args .args .lengths)) (bc (at-args)) (at-args .args .run) (le (at-args)) (now (at-args .args .counts)) (at-are-even .are-even .result) (at-are-even .are-even .ensures) (told-going _ _ (at-stage .stage .ensures) (at-match .match .keys2)) _ (c .none-passed3 .ensures) (not-true _ (at-if2 .if2 .taken))
 
--- src/lib.rt:282:1
-same-length-8 : tie.Need-same-length-8
-same-length-8 c = search needs
+is-right-requires : tie.Need-is-right-requires
+is-right-requires c κs = search needs
 
--- src/lib.rt:282:1
-same-length-9 : tie.Need-same-length-9
-same-length-9 c = search needs
+none-passed-requires-4 : tie.Need-none-passed-requires-4
+none-passed-requires-4 c κs = search needs
 
--- src/lib.rt:282:1
-same-length-10 : tie.Need-same-length-10
-same-length-10 c = search needs
+same-length : tie.Need-same-length
+same-length c = search needs
 
--- src/lib.rt:282:1
-same-length-11 : tie.Need-same-length-11
-same-length-11 c = search needs
-
--- src/lib.rt:282:1
-same-length-12 : tie.Need-same-length-12
-same-length-12 c = search needs
-
--- src/lib.rt:282:1
-same-length-13 : tie.Need-same-length-13
-same-length-13 c = search needs
-
--- src/lib.rt:282:1
 returns-4 : tie.Need-returns-4
-returns-4 c = first-other (sc (c .before .before .before .before .before .before .before .before .before .before .before .before .before .before .before .before .before .before .before .before .before .before .before .before .before .before .before .before .before .before .before .before .before .before .before .before .before .before .before .before .before)) (now (c .before .before .before .before .before .before .before .before .before .before .before .before .before .before .before .before .before .before .before .before .before .before .before .before .before .before .before .before .before .before .before .before .before .before .before .before .before .before .before .before .before .args .lengths)) (bc (c .before .before .before .before .before .before .before .before .before .before .before .before .before .before .before .before .before .before .before .before .before .before .before .before .before .before .before .before .before .before .before .before .before .before .before .before .before .before .before .before .before)) (c .before .before .before .before .before .before .before .before .before .before .before .before .before .before .before .before .before .before .before .before .before .before .before .before .before .before .before .before .before .before .before .before .before .before .before .before .before .before .before .before .before .args .run) (le (c .before .before .before .before .before .before .before .before .before .before .before .before .before .before .before .before .before .before .before .before .before .before .before .before .before .before .before .before .before .before .before .before .before .before .before .before .before .before .before .before .before)) (now (c .before .before .before .before .before .before .before .before .before .before .before .before .before .before .before .before .before .before .before .before .before .before .before .before .before .before .before .before .before .before .before .before .before .before .before .before .before .before .before .before .before .args .counts)) (even (c .before .before .before .before .before .before .before .before .before .before .before .before .before .before .before .before .before .before .before .before .before .before .before .before .before)) (below (c .before .before .before .before .before .before .before .before .before .before .before .before .before .before .before .before .before .before .before .before .before .before .before .before)) (shaped (c .before .before .before .before .before .before .before .before .before .before .before .before .before .before .before .before .before .before .before .before .before .before .before .before .before .before .before .before .before .before .before .before .before .before .before .before .before .before .before .before .before)) _ (c .before .before .before .before .before .before .before .before .before .before .before .before .before .before .before .before .before .before .before .before .before .before .before .base-at .ensures) _ _ _ (c .before .before .before .before .before .before .before .before .before .before .before .before .before .before .before .before .give .ensures) (omega (arith, c .before .before .before .before .before .before .before .before .before .before .before .before .before .before .before .before .give .kept)) (omega (arith, c .before .before .before .before .before .before .before .before .before .before .before .before .before .before .before .before .give .kept)) _ (c .before .answer2 .given .1) tt
+returns-4 c =
+    let at-if3 = c .before in
+    let at-is-right = at-if3 .before in
+    let at-if2 = at-is-right .before .before in
+    let at-match = at-if2 .before in
+    let at-stage = at-match .before in
+    let at-if1 = at-stage .before in
+    let at-are-even = at-if1 .before in
+    let at-args = at-are-even .before .before .before .before .before .before .before .before .before in
+    wrong-given (sc (at-args)) (now (at-args .args .lengths)) (bc (at-args)) (at-args .args .run) (le (at-args)) (now (at-args .args .counts)) (at-are-even .are-even .result) (at-are-even .are-even .ensures) (told-going _ _ (at-stage .stage .ensures) (at-match .match .keys2)) _ (c .none-passed4 .ensures) (at-if1 .if1 .left) (not-false _ (at-if2 .if2 .left)) (sym (at-is-right .is-right .ensures) ∙ not-true _ (at-if3 .if3 .taken))
 
--- src/lib.rt:282:1
-same-length-14 : tie.Need-same-length-14
-same-length-14 c = search needs
+pass-requires : tie.Need-pass-requires
+pass-requires c κs =
+    let at-if3 = c .before .before .before in
+    let at-is-right = at-if3 .before in
+    let at-if2 = at-is-right .before .before in
+    let at-match = at-if2 .before in
+    let at-stage = at-match .before in
+    let at-are-even = at-stage .before .before in
+    let at-args = at-are-even .before .before .before .before .before .before .before .before .before in
+    passable (sc (at-args)) (now (at-args .args .lengths)) (bc (at-args)) (at-args .args .run) (le (at-args)) (now (at-args .args .counts)) (at-are-even .are-even .result) (at-are-even .are-even .ensures) (told-going _ _ (at-stage .stage .ensures) (at-match .match .keys2)) (not-false _ (at-if2 .if2 .left)) (sym (at-is-right .is-right .ensures) ∙ not-false _ (at-if3 .if3 .left))
 
--- src/lib.rt:282:1
-same-length-15 : tie.Need-same-length-15
-same-length-15 c = search needs
+same-length-2 : tie.Need-same-length-2
+same-length-2 c = search needs
 
--- src/lib.rt:282:1
-same-length-16 : tie.Need-same-length-16
-same-length-16 c = search needs
+same-length-3 : tie.Need-same-length-3
+same-length-3 c = search needs
 
--- src/lib.rt:282:1
-same-length-17 : tie.Need-same-length-17
-same-length-17 c = search needs
+same-length-4 : tie.Need-same-length-4
+same-length-4 c = search needs
 
--- src/lib.rt:282:1
-same-length-18 : tie.Need-same-length-18
-same-length-18 c = search needs
-
--- src/lib.rt:282:1
-same-length-19 : tie.Need-same-length-19
-same-length-19 c = search needs
-
--- src/lib.rt:282:1
 returns-5 : tie.Need-returns-5
-returns-5 c = first-other (sc (c .before .before .before .before .before .before .before .before .before .before .before .before .before .before .before .before .before .before .before .before .before .before .before .before .before .before .before .before .before .before .before .before .before .before .before .before .before .before .before .before .before)) (now (c .before .before .before .before .before .before .before .before .before .before .before .before .before .before .before .before .before .before .before .before .before .before .before .before .before .before .before .before .before .before .before .before .before .before .before .before .before .before .before .before .before .args .lengths)) (bc (c .before .before .before .before .before .before .before .before .before .before .before .before .before .before .before .before .before .before .before .before .before .before .before .before .before .before .before .before .before .before .before .before .before .before .before .before .before .before .before .before .before)) (c .before .before .before .before .before .before .before .before .before .before .before .before .before .before .before .before .before .before .before .before .before .before .before .before .before .before .before .before .before .before .before .before .before .before .before .before .before .before .before .before .before .args .run) (le (c .before .before .before .before .before .before .before .before .before .before .before .before .before .before .before .before .before .before .before .before .before .before .before .before .before .before .before .before .before .before .before .before .before .before .before .before .before .before .before .before .before)) (now (c .before .before .before .before .before .before .before .before .before .before .before .before .before .before .before .before .before .before .before .before .before .before .before .before .before .before .before .before .before .before .before .before .before .before .before .before .before .before .before .before .before .args .counts)) (even (c .before .before .before .before .before .before .before .before .before .before .before .before .before .before .before .before .before .before .before .before .before .before .before .before .before)) (below (c .before .before .before .before .before .before .before .before .before .before .before .before .before .before .before .before .before .before .before .before .before .before .before .before)) (shaped (c .before .before .before .before .before .before .before .before .before .before .before .before .before .before .before .before .before .before .before .before .before .before .before .before .before .before .before .before .before .before .before .before .before .before .before .before .before .before .before .before .before)) _ (c .before .before .before .before .before .before .before .before .before .before .before .before .before .before .before .before .before .before .before .before .before .before .before .base-at .ensures) _ _ _ (c .before .before .before .before .before .before .before .before .before .before .before .before .before .before .before .before .give .ensures) (omega (arith, c .before .before .before .before .before .before .before .before .before .before .before .before .before .before .before .before .give .kept)) (omega (arith, c .before .before .before .before .before .before .before .before .before .before .before .before .before .before .before .before .give .kept)) _ (c .before .answer3 .given .1) tt
+returns-5 c =
+    let at-pass = c .before .before .before .before in
+    let at-if3 = at-pass .before .before .before .before in
+    let at-is-right = at-if3 .before in
+    let at-if2 = at-is-right .before .before in
+    let at-match = at-if2 .before in
+    let at-stage = at-match .before in
+    let at-are-even = at-stage .before .before in
+    let at-args = at-are-even .before .before .before .before .before .before .before .before .before in
+    passed-given (sc (at-args)) (now (at-args .args .lengths)) (bc (at-args)) (at-args .args .run) (le (at-args)) (now (at-args .args .counts)) (at-are-even .are-even .result) (at-are-even .are-even .ensures) (told-going _ _ (at-stage .stage .ensures) (at-match .match .keys2)) (not-false _ (at-if2 .if2 .left)) (sym (at-is-right .is-right .ensures) ∙ not-false _ (at-if3 .if3 .left)) _ _ _ (at-pass .pass .ensures)
 
 pub give-all-spec : {M : Type 1} → statement M
 give-all-spec =
     tie.close
     (tie.spec
     are-even-requires
+    none-passed-requires
     returns
+    stage-requires
+    enum-known-stage
+    none-passed-requires-2
     returns-2
-    base-at-requires
-    give-requires
-    enum-known-answer
-    slice-write-counts
-    rest-requires
-    enum-known-answer-2
-    enum-known-answer-3
+    none-passed-requires-3
+    returns-3
+    is-right-requires
+    none-passed-requires-4
     same-length
+    returns-4
+    pass-requires
     same-length-2
     same-length-3
     same-length-4
-    same-length-5
-    same-length-6
-    same-length-7
-    returns-3
-    same-length-8
-    same-length-9
-    same-length-10
-    same-length-11
-    same-length-12
-    same-length-13
-    returns-4
-    same-length-14
-    same-length-15
-    same-length-16
-    same-length-17
-    same-length-18
-    same-length-19
     returns-5)

@@ -9,34 +9,31 @@ give-requires : tie.Need-give-requires
 give-requires c κs = tt
 
 slice-aggregate-put-answer : tie.Need-slice-aggregate-put-answer
-slice-aggregate-put-answer c = let g = c .before .before .before .before .before .before .before .before .before .before .before .before .before .before .before .before .before .before .before .before .before .before .before .before .before .before .before .before .before .before .before .before .before .before .before .good .0 .1 .1 .1 .1 .1 .1 .1 .1 .0 in search (needs, g)
+slice-aggregate-put-answer c =
+    let at-good = c .before .before .before .before .before .before .before .before .before .before .before .before .before .before .before in
+    let g = at-good .good .0 .1 .1 .1 .1 .1 .1 .1 .1 .0 in search (needs, g)
 
 put-answer-requires : tie.Need-put-answer-requires
-put-answer-requires c κs = reply-backs (c .before .before .before .before .before .before .before .before .before .before .before .before .before .before .before .before .before .give .ensures) (c .before .before .before .before .before .before .before .before .before .before .before .before .before .before .before .before .before .before .before .before .before .before .before .before .before .before .before .before .before .before .before .before .before .before .before .before .before .args .run .from)
+put-answer-requires c κs =
+    let at-give = c .before .before .before .before .before .before in
+    let at-args = at-give .before .before .before .before .before .before .before .before .before .before in
+    reply-backs (at-give .give .ensures) (at-args .args .run .from)
 
 same-length : tie.Need-same-length
-same-length c = c .before .before .before .before .before .before .before .before .before .before .before .before .before .before .before .before .before .before .before .qstream .given
+same-length c = c .before .before .before .before .before .before .before .before .queue .given
 
 same-length-2 : tie.Need-same-length-2
-same-length-2 c = c .before .before .before .before .before .before .before .before .before .before .before .before .before .before .before .before .before .qrow .given
+same-length-2 c = c .before .before .before .before .before .before .before .answers .given
 
 same-length-3 : tie.Need-same-length-3
-same-length-3 c = c .before .before .before .before .before .before .before .before .before .before .before .before .before .before .before .qstart .given
-
-same-length-4 : tie.Need-same-length-4
-same-length-4 c = c .before .before .before .before .before .before .before .before .before .before .before .before .before .qstop .given
-
-same-length-5 : tie.Need-same-length-5
-same-length-5 c = c .before .before .before .before .before .before .before .before .before .before .before .streams .given
-
-same-length-6 : tie.Need-same-length-6
-same-length-6 c = c .before .before .before .before .before .before .before .before .before .rows .given
-
-same-length-7 : tie.Need-same-length-7
-same-length-7 c = c .before .out .given
+same-length-3 c = c .before .out .given
 
 returns : tie.Need-returns
-returns c = reply-lists (c .before .before .before .before .before .before .before .before .before .before .before .before .before .before .before .before .before .before .before .before .give .ensures) (now (c .before .before .before .before .before .before .before .before .before .before .before .before .before .before .before .before .before .before .before .before .before .before .before .before .before .before .before .before .before .before .before .before .before .before .before .before .before .before .before .before .args .name)) (c .before .before .before .before .before .before .before .before .before .before .before .before .before .before .before .before .before .before .before .before .before .before .before .before .before .before .before .before .before .before .before .before .before .before .before .before .before .before .before .before .args .row) (now (c .before .before .before .before .before .before .before .before .before .before .before .before .before .before .before .before .before .before .before .before .before .before .before .before .before .before .before .before .before .before .before .before .before .before .before .before .before .before .before .before .args .out)) (c .before .before .before .before .before .before .before .before .before .before .before .before .before .before .before .before .before .before .before .before .before .before .before .before .before .before .before .before .before .before .before .before .before .before .before .before .before .before .before .before .args .at) _ (c .before .before .put-answer .ensures)
+returns c =
+    let at-put-answer = c .before .before in
+    let at-give = at-put-answer .before .before .before .before .before .before .before in
+    let at-args = at-give .before .before .before .before .before .before .before .before .before .before in
+    reply-lists (at-give .give .ensures) (now (at-args .args .name)) (at-args .args .row) (now (at-args .args .out)) (at-args .args .at) _ (at-put-answer .put-answer .ensures)
 
 pub list-base-spec : {M : Type 1} → statement M
 list-base-spec =
@@ -48,8 +45,4 @@ list-base-spec =
     same-length
     same-length-2
     same-length-3
-    same-length-4
-    same-length-5
-    same-length-6
-    same-length-7
     returns)

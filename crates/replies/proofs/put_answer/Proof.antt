@@ -12,7 +12,10 @@ enum-known-answer : tie.Need-enum-known-answer
 enum-known-answer c = search needs
 
 put-found-requires : tie.Need-put-found-requires
-put-found-requires c κs = (omega arith, c .before .before .before .before .before .before .before .before .before .before .before .before .pre _ _ (c .before .before .answer .given .1))
+put-found-requires c κs =
+    let at-answer = c .before .before in
+    let at-pre = at-answer .before .before .before .before .before .before .before .before in
+    (omega arith, at-pre .pre _ _ (at-answer .answer .given .1))
 
 enum-known-answer-2 : tie.Need-enum-known-answer-2
 enum-known-answer-2 c = search needs
@@ -45,7 +48,11 @@ same-length-2 : tie.Need-same-length-2
 same-length-2 c = c .before .before .out2 .given
 
 returns-3 : tie.Need-returns-3
-returns-3 c = rw (c .before .before .before .before .before .before .before .answer2 .given .1, c .only .ensures) (lays-only _ (omega arith) (rw (c .before .before .before .before .refusal-number .ensures) at (c .before .before .before .put-x .ensures)))
+returns-3 c =
+    let at-put-x = c .before .before .before in
+    let at-refusal-number = at-put-x .before in
+    let at-answer2 = at-refusal-number .before .before .before in
+    rw (at-answer2 .answer2 .given .1, c .only .ensures) (lays-only _ (omega arith) (rw (at-refusal-number .refusal-number .ensures) at (at-put-x .put-x .ensures)))
 
 same-length-3 : tie.Need-same-length-3
 same-length-3 c = c .before .before .out3 .given

@@ -13,7 +13,11 @@ enum-known-put : tie.Need-enum-known-put
 enum-known-put c = search needs
 
 put-records-requires : tie.Need-put-records-requires
-put-records-requires c κs = (puts-inside (rw (c .before .before .put .given .1) at (c .before .before .before .before .before .before .put-b .ensures)), c .before .before .before .before .before .before .before .before .before .before .before .before .before .before .before .pre .1)
+put-records-requires c κs =
+    let at-put = c .before .before in
+    let at-put-b = at-put .before .before .before .before in
+    let at-pre = at-put-b .before .before .before .before .before .before .before in
+    (puts-inside (rw (at-put .put .given .1) at (at-put-b .put-b .ensures)), at-pre .pre .1)
 
 enum-told : tie.Need-enum-told
 enum-told c = search needs
@@ -22,13 +26,20 @@ same-length : tie.Need-same-length
 same-length c = c .before .out2 .given ∙ c .before .before .before .before .before .before .before .before .out .given
 
 returns : tie.Need-returns
-returns c = lays-more _ (rw (c .before .before .before .before .before .put .given .1) at (c .before .before .before .before .before .before .before .before .before .put-b .ensures)) (c .before .before .put-records .ensures)
+returns c =
+    let at-put-records = c .before .before in
+    let at-put = at-put-records .before .before .before in
+    let at-put-b = at-put .before .before .before .before in
+    lays-more _ (rw (at-put .put .given .1) at (at-put-b .put-b .ensures)) (at-put-records .put-records .ensures)
 
 same-length-2 : tie.Need-same-length-2
 same-length-2 c = c .before .before .before .out .given
 
 returns-2 : tie.Need-returns-2
-returns-2 c = lays-stop _ (c .before .before .before .before .before .before .before .before .before .before .before .before .before .pre .0) (rw (c .enum-told .given .1) at (c .before .before .before .before .put-b .ensures))
+returns-2 c =
+    let at-put-b = c .before .before .before .before in
+    let at-pre = at-put-b .before .before .before .before .before .before .before in
+    lays-stop _ (at-pre .pre .0) (rw (c .enum-told .given .1) at (at-put-b .put-b .ensures))
 
 pub put-found-spec : {M : Type 1} → statement M
 put-found-spec =

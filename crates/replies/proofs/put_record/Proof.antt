@@ -4,8 +4,8 @@ use borrow.Author.Needs.{needs}
 use Rattle.replies.proofs.put_record.Statement.{statement}
 use Rattle.replies.proofs.put_record.Tie as tie
 
-first-of-requires : tie.Need-first-of-requires
-first-of-requires c κs = tt
+place-at-requires : tie.Need-place-at-requires
+place-at-requires c κs = tt
 
 value-at-requires : tie.Need-value-at-requires
 value-at-requires c κs = tt
@@ -21,13 +21,18 @@ same-length c = c .before .out .given
 
 returns : tie.Need-returns
 returns c =
-    record-put (c .before .before .before .before .before .before .before .before .before .before .before .args .start .now) (c .before .before .before .before .before .before .before .before .before .before .before .args .stop .now) (c .before .before .before .before .before .before .before .before .before .before .before .args .from .now) (c .before .before .before .before .before .before .before .before .before .before .before .args .stream) (c .before .before .before .before .before .before .before .before .before .before .before .args .row) (c .before .before .before .before .before .before .first-of .ensures) (c .before .before .before .before .before .value-at .ensures) (c .before .before .before .before .value-at2 .ensures) (c .before .before .put-r .ensures)
+    let at-put-r = c .before .before in
+    let at-value-at2 = at-put-r .before .before in
+    let at-value-at = at-value-at2 .before in
+    let at-place-at = at-value-at .before in
+    let at-args = at-place-at .before .before .before .before .before in
+    record-put (at-args .args .start .now) (at-args .args .stop .now) (at-args .args .from .now) (at-args .args .stream) (at-args .args .row) (at-place-at .place-at .ensures) (at-value-at .value-at .ensures) (at-value-at2 .value-at2 .ensures) (at-put-r .put-r .ensures)
 
 pub put-record-spec : {M : Type 1} → statement M
 put-record-spec =
     tie.close
     (tie.spec
-    first-of-requires
+    place-at-requires
     value-at-requires
     value-at-requires-2
     put-r-requires

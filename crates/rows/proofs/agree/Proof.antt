@@ -41,7 +41,10 @@ loop-less : tie.Need-loop-less Inv-loop μ-loop
 loop-less c = search needs
 
 loop-again : tie.Need-loop-again Inv-loop μ-loop
-loop-again c = (search needs, agree-next (c .before .before .before .before .before .args .text .now) (c .before .before .before .before .before .args .a) (c .before .before .before .before .before .args .b) (c .before .before .before .before .loop .i) (c .before .before .before .before .loop .inv .1) (c .if1 .left) (omega arith) (omega arith))
+loop-again c =
+    let at-loop = c .before .before .before .before in
+    let at-args = at-loop .before in
+    (search needs, agree-next (at-args .args .text .now) (at-args .args .a) (at-args .args .b) (at-loop .loop .i) (at-loop .loop .inv .1) (c .if1 .left) (omega arith) (omega arith))
 
 returns-2 : tie.Need-returns-2 Inv-loop μ-loop
 returns-2 c = (search needs, c .before .loop .inv .1)

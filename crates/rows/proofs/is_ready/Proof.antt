@@ -6,7 +6,7 @@ use Rattle.rows.proofs.is_ready.Statement.{statement}
 use Rattle.rows.proofs.is_ready.Tie as tie
 use Rattle.rows.proofs.is_ready.Reads as reads
 use Rattle.rows.proofs.is_ready.Lts as lts
-use Rattle.text.proofs.all_within.Reads as all-within-reads
+use Rattle.fields.proofs.all_within.Reads as all-within-reads
 
 returns : tie.Need-returns
 returns c = sym (ready-uneven _ _ _ _ _ _ (c .if1 .taken))

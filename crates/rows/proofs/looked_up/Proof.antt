@@ -5,7 +5,7 @@ use Rattle.rows.proofs.looked_up.Statement.{statement}
 use Rattle.rows.proofs.looked_up.Tie as tie
 use Rattle.rows.proofs.looked_up.Reads as reads
 use Rattle.rows.proofs.looked_up.Lts as lts
-use Rattle.text.proofs.find_in.Reads as find-in-reads
+use Rattle.fields.proofs.find_in.Reads as find-in-reads
 
 sub-find-in : tie.Need-sub-find-in
 sub-find-in c = search needs

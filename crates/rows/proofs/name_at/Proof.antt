@@ -8,8 +8,8 @@ use Rattle.rows.proofs.name_at.Reads as reads
 use Rattle.rows.proofs.name_at.Lts as lts
 use Rattle.rows.proofs.agree.Reads as agree-reads
 use Rattle.rows.proofs.looked_up.Reads as looked-up-reads
-use Rattle.text.proofs.field_end.Reads as field-end-reads
-use Rattle.text.proofs.least.Reads as least-reads
+use Rattle.fields.proofs.field_end.Reads as field-end-reads
+use Rattle.fields.proofs.least.Reads as least-reads
 
 sub-size : tie.Need-sub-size
 sub-size c = search needs
@@ -30,19 +30,32 @@ field-end-requires : tie.Need-field-end-requires
 field-end-requires c κs = search needs
 
 looked-up-requires : tie.Need-looked-up-requires
-looked-up-requires c κs = (seen-to (c .before .before .before .before .before .before .before .before .before .pre .2) (c .before .before .before .before .before .before .before .before .before .args .at) (c .before .before .agree .result) (omega arith) (omega arith) (c .before .before .agree .ensures .1) (c .before .field-end .ensures), c .before .before .before .before .before .before .before .before .before .pre .1)
+looked-up-requires c κs =
+    let at-field-end = c .before in
+    let at-agree = at-field-end .before in
+    let at-pre = at-agree .before .before .before .before .before .before .before in
+    (seen-to (at-pre .pre .2) (at-pre .args .at) (at-agree .agree .result) (omega arith) (omega arith) (at-agree .agree .ensures .1) (at-field-end .field-end .ensures), at-pre .pre .1)
 
 returns : tie.Need-returns
 returns c = search needs
 
 looked-up-requires-2 : tie.Need-looked-up-requires-2
-looked-up-requires-2 c κs = (seen-to (c .before .before .before .before .before .before .before .before .before .before .pre .2) (c .before .before .before .before .before .before .before .before .before .before .args .at) (c .before .before .before .agree .result) (omega arith) (omega arith) (c .before .before .before .agree .ensures .1) (c .before .before .field-end .ensures), c .before .before .before .before .before .before .before .before .before .before .pre .1)
+looked-up-requires-2 c κs =
+    let at-field-end = c .before .before in
+    let at-agree = at-field-end .before in
+    let at-pre = at-agree .before .before .before .before .before .before .before in
+    (seen-to (at-pre .pre .2) (at-pre .args .at) (at-agree .agree .result) (omega arith) (omega arith) (at-agree .agree .ensures .1) (at-field-end .field-end .ensures), at-pre .pre .1)
 
 returns-2 : tie.Need-returns-2
 returns-2 c = search needs
 
 returns-3 : tie.Need-returns-3
-returns-3 c = seen-same (c .before .before .before .before .before .before .before .before .before .before .pre .2) (c .before .before .before .before .before .before .before .before .before .before .args .at) (c .before .before .before .agree .result) (omega arith) (omega arith) (c .before .before .before .agree .ensures .1) (c .before .before .field-end .ensures) (c .before .if1 .left) (c .if2 .left)
+returns-3 c =
+    let at-if1 = c .before in
+    let at-field-end = at-if1 .before in
+    let at-agree = at-field-end .before in
+    let at-pre = at-agree .before .before .before .before .before .before .before in
+    seen-same (at-pre .pre .2) (at-pre .args .at) (at-agree .agree .result) (omega arith) (omega arith) (at-agree .agree .ensures .1) (at-field-end .field-end .ensures) (at-if1 .if1 .left) (c .if2 .left)
 
 pub name-at-spec : {M : Type 1} → statement M
 name-at-spec =

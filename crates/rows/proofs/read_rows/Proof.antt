@@ -4,8 +4,8 @@ use mathlib.Core.Path.{sym, _∙_}
 use native.Mathlib.Omega.{arith}
 use lib.ListN.{length}
 use borrow.Author.Tests.{not-true, not-false}
-use Rattle.text.specs.Names.{names, numberIn}
-use Rattle.text.proofs.Tables.{Filling, fill-start, fill-none, fill-pass, fill-put, fill-bad, fill-full, fill-end}
+use Rattle.fields.specs.Names.{names, numberIn}
+use Rattle.fields.proofs.Tables.{Filling, fill-start, fill-none, fill-pass, fill-put, fill-bad, fill-full, fill-end}
 use Rattle.rows.specs.Row.{rowOf, chromOf, startOf, stopOf}
 use Rattle.rows.specs.Read.{Knows}
 use Rattle.rows.proofs.Seeing.{knows-none, knows-next}
@@ -18,7 +18,7 @@ use Rattle.rows.proofs.read_rows.Lts as lts
 use Rattle.rows.proofs.is_ready.Reads as is-ready-reads
 use Rattle.rows.proofs.row_at.Reads as row-at-reads
 use Rattle.rows.proofs.unseen.Reads as unseen-reads
-use Rattle.text.proofs.past.Reads as past-reads
+use Rattle.fields.proofs.past.Reads as past-reads
 
 abbrev Inv-loop : tie.InvT-loop
 Inv-loop text list from to chrom₀ start₀ stop₀ room end seen₀ n₀ at₀ chrom start stop seen n at = Filling (rowOf (numberIn (names list from to))) chromOf startOf stopOf text chrom₀ start₀ stop₀ chrom start stop n at × Knows text (names list from to) seen
@@ -48,7 +48,11 @@ loop-again : tie.Need-loop-again Inv-loop μ-loop
 loop-again c = (fill-pass (c .before .before .before .loop .inv .0) (c .before .past .ensures) (c .if2 .taken), c .before .before .before .loop .inv .1)
 
 row-at-requires : tie.Need-row-at-requires Inv-loop μ-loop
-row-at-requires c κs = (omega arith, ready-within _ _ _ _ _ _ (sym (c .before .before .before .before .before .before .is-ready .ensures) ∙ not-false _ (c .before .before .before .before .before .if1 .left)), c .before .before .before .loop .inv .1)
+row-at-requires c κs =
+    let at-loop = c .before .before .before in
+    let at-if1 = at-loop .before .before in
+    let at-is-ready = at-if1 .before in
+    (omega arith, ready-within _ _ _ _ _ _ (sym (at-is-ready .is-ready .ensures) ∙ not-false _ (at-if1 .if1 .left)), at-loop .loop .inv .1)
 
 enum-known-l : tie.Need-enum-known-l Inv-loop μ-loop
 enum-known-l c = search needs
@@ -66,7 +70,14 @@ same-length-3 : tie.Need-same-length-3 Inv-loop μ-loop
 same-length-3 c = search needs
 
 returns-2 : tie.Need-returns-2 Inv-loop μ-loop
-returns-2 c = fill-bad (c .before .before .before .before .before .before .loop .inv .0) _ (rows-read _ _ _ _ _ _ _ (sym (c .before .before .before .before .before .before .before .before .before .is-ready .ensures) ∙ not-false _ (c .before .before .before .before .before .before .before .before .if1 .left))) (c .before .before .before .before .past .ensures) (c .before .before .before .if2 .left) (line-not (c .before .before .row-at .ensures) (c .enum-told .given .1))
+returns-2 c =
+    let at-row-at = c .before .before in
+    let at-if2 = at-row-at .before in
+    let at-past = at-if2 .before in
+    let at-loop = at-past .before .before in
+    let at-if1 = at-loop .before .before in
+    let at-is-ready = at-if1 .before in
+    fill-bad (at-loop .loop .inv .0) _ (rows-read _ _ _ _ _ _ _ (sym (at-is-ready .is-ready .ensures) ∙ not-false _ (at-if1 .if1 .left))) (at-past .past .ensures) (at-if2 .if2 .left) (line-not (at-row-at .row-at .ensures) (c .enum-told .given .1))
 
 same-length-4 : tie.Need-same-length-4 Inv-loop μ-loop
 same-length-4 c = search needs
@@ -78,34 +89,56 @@ same-length-6 : tie.Need-same-length-6 Inv-loop μ-loop
 same-length-6 c = search needs
 
 returns-3 : tie.Need-returns-3 Inv-loop μ-loop
-returns-3 c = fill-full (c .before .before .before .before .before .before .before .before .loop .inv .0) _ (rows-read _ _ _ _ _ _ _ (sym (c .before .before .before .before .before .before .before .before .before .before .before .is-ready .ensures) ∙ not-false _ (c .before .before .before .before .before .before .before .before .before .before .if1 .left))) (c .before .before .before .before .before .before .past .ensures) (c .before .before .before .before .before .if2 .left) _ (line-is (c .before .before .before .before .row-at .ensures) (c .before .before .l .given .1)) (c .if3 .taken)
+returns-3 c =
+    let at-l = c .before .before in
+    let at-row-at = at-l .before .before in
+    let at-if2 = at-row-at .before in
+    let at-past = at-if2 .before in
+    let at-loop = at-past .before .before in
+    let at-if1 = at-loop .before .before in
+    let at-is-ready = at-if1 .before in
+    fill-full (at-loop .loop .inv .0) _ (rows-read _ _ _ _ _ _ _ (sym (at-is-ready .is-ready .ensures) ∙ not-false _ (at-if1 .if1 .left))) (at-past .past .ensures) (at-if2 .if2 .left) _ (line-is (at-row-at .row-at .ensures) (at-l .l .given .1)) (c .if3 .taken)
 
 mul-chrom : tie.Need-mul-chrom Inv-loop μ-loop
-mul-chrom c = omega (arith, c .before .before .before .before .before .before .before .before .before .before .before .before .before .before .before .before .before .before .before .good)
+mul-chrom c =
+    let at-good = c .before .before .before .before .before .before .before .before .before .before .before .before .before .before .before .before .before .before .before in
+    omega (arith, at-good .good)
 
 slice-write-chrom : tie.Need-slice-write-chrom Inv-loop μ-loop
 slice-write-chrom c = search needs
 
 mul-start : tie.Need-mul-start Inv-loop μ-loop
-mul-start c = omega (arith, c .before .before .before .before .before .before .before .before .before .before .before .before .before .before .before .before .before .before .before .good)
+mul-start c =
+    let at-good = c .before .before .before .before .before .before .before .before .before .before .before .before .before .before .before .before .before .before .before in
+    omega (arith, at-good .good)
 
 slice-write-start : tie.Need-slice-write-start Inv-loop μ-loop
 slice-write-start c = search needs
 
 mul-stop : tie.Need-mul-stop Inv-loop μ-loop
-mul-stop c = omega (arith, c .before .before .before .before .before .before .before .before .before .before .before .before .before .before .before .before .before .before .before .good)
+mul-stop c =
+    let at-good = c .before .before .before .before .before .before .before .before .before .before .before .before .before .before .before .before .before .before .before in
+    omega (arith, at-good .good)
 
 slice-write-stop : tie.Need-slice-write-stop Inv-loop μ-loop
 slice-write-stop c = search needs
 
 add-n : tie.Need-add-n Inv-loop μ-loop
-add-n c = omega (arith, c .before .before .before .before .before .before .before .before .before .before .before .before .before .before .before .before .before .before .before .good)
+add-n c =
+    let at-good = c .before .before .before .before .before .before .before .before .before .before .before .before .before .before .before .before .before .before .before in
+    omega (arith, at-good .good)
 
 loop-less-2 : tie.Need-loop-less-2 Inv-loop μ-loop
 loop-less-2 c = omega (arith, line-next (c .before .before .before .before .row-at .ensures) (c .before .before .l .given .1))
 
 loop-again-2 : tie.Need-loop-again-2 Inv-loop μ-loop
-loop-again-2 c = (fill-put (c .before .before .before .before .before .before .before .before .loop .inv .0) (c .before .before .before .before .before .before .past .ensures) (c .before .before .before .before .before .if2 .left) (line-next (c .before .before .before .before .row-at .ensures) (c .before .before .l .given .1)) _ (line-is (c .before .before .before .before .row-at .ensures) (c .before .before .l .given .1)) (omega arith), knows-next _ _ (line-to (c .before .before .before .before .row-at .ensures) (c .before .before .l .given .1) (omega arith)) (line-chrom (c .before .before .before .before .row-at .ensures) (c .before .before .l .given .1)))
+loop-again-2 c =
+    let at-l = c .before .before in
+    let at-row-at = at-l .before .before in
+    let at-if2 = at-row-at .before in
+    let at-past = at-if2 .before in
+    let at-loop = at-past .before .before in
+    (fill-put (at-loop .loop .inv .0) (at-past .past .ensures) (at-if2 .if2 .left) (line-next (at-row-at .row-at .ensures) (at-l .l .given .1)) _ (line-is (at-row-at .row-at .ensures) (at-l .l .given .1)) (omega arith), knows-next _ _ (line-to (at-row-at .row-at .ensures) (at-l .l .given .1) (omega arith)) (line-chrom (at-row-at .row-at .ensures) (at-l .l .given .1)))
 
 same-length-7 : tie.Need-same-length-7 Inv-loop μ-loop
 same-length-7 c = search needs

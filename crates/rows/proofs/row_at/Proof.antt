@@ -22,10 +22,14 @@ shared-slice-read-if3 : tie.Need-shared-slice-read-if3
 shared-slice-read-if3 c = search needs
 
 start-at-requires : tie.Need-start-at-requires
-start-at-requires c κs = record { field = c .before .before .before .before .name-at .ensures .field; some = omega (arith, c .before .before .before .before .name-at .ensures .field .ends); more = omega (arith, c .before .before .before .before .name-at .ensures .field .inside); tab = c .if3 .taken }
+start-at-requires c κs =
+    let at-name-at = c .before .before .before .before in
+    record { field = at-name-at .name-at .ensures .field; some = omega (arith, at-name-at .name-at .ensures .field .ends); more = omega (arith, at-name-at .name-at .ensures .field .inside); tab = c .if3 .taken }
 
 returns-3 : tie.Need-returns-3
-returns-3 c = row-named _ _ _ (c .before .before .before .before .before .name-at .ensures .field) (c .before .before .before .before .before .name-at .ensures .number) (c .start-at .ensures)
+returns-3 c =
+    let at-name-at = c .before .before .before .before .before in
+    row-named _ _ _ (at-name-at .name-at .ensures .field) (at-name-at .name-at .ensures .number) (c .start-at .ensures)
 
 returns-4 : tie.Need-returns-4
 returns-4 c = row-one-out _ (c .before .before .before .before .name-at .ensures .field) (omega (arith, c .before .before .before .before .name-at .ensures .field .inside)) (c .if3 .left)

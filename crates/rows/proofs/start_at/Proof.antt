@@ -8,7 +8,7 @@ use Rattle.rows.proofs.start_at.Tie as tie
 use Rattle.rows.proofs.start_at.Reads as reads
 use Rattle.rows.proofs.start_at.Lts as lts
 use Rattle.rows.proofs.stop_at.Reads as stop-at-reads
-use Rattle.text.proofs.number_at.Reads as number-at-reads
+use Rattle.fields.proofs.number_at.Reads as number-at-reads
 
 add-number-at : tie.Need-add-number-at
 add-number-at c = search needs
@@ -23,30 +23,46 @@ enum-known-n : tie.Need-enum-known-n
 enum-known-n c = search needs
 
 returns : tie.Need-returns
-returns c = row-two-none (λ _. c .before .before .before .before .before .before .args .chrom) (c .before .before .before .before .before .before .pre) (sym (c .before .before .before .before .number-at .ensures) ∙ c .before .before .n .given .1) (c .if1 .taken)
+returns c =
+    let at-n = c .before .before in
+    let at-number-at = at-n .before .before in
+    let at-args = at-number-at .before .before in
+    row-two-none (λ _. at-args .args .chrom) (at-args .pre) (sym (at-number-at .number-at .ensures) ∙ at-n .n .given .1) (c .if1 .taken)
 
 shared-slice-read-if2 : tie.Need-shared-slice-read-if2
 shared-slice-read-if2 c =
-    let f = start-to (λ _. c .before .before .before .before .before .before .before .args .chrom) (c .before .before .before .before .before .before .before .pre) (sym (c .before .before .before .before .before .number-at .ensures) ∙ c .before .before .before .n .given .1) in
+    let at-n = c .before .before .before in
+    let at-number-at = at-n .before .before in
+    let at-args = at-number-at .before .before in
+    let f = start-to (λ _. at-args .args .chrom) (at-args .pre) (sym (at-number-at .number-at .ensures) ∙ at-n .n .given .1) in
     omega (arith, f .inside)
 
 stop-at-requires : tie.Need-stop-at-requires
 stop-at-requires c κs =
-    let e = sym (c .before .before .before .before .before .before .number-at .ensures) ∙ c .before .before .before .before .n .given .1 in
-    let f = start-to (λ _. c .before .before .before .before .before .before .before .before .args .chrom) (c .before .before .before .before .before .before .before .before .pre) e in
-    (c .before .before .before .before .before .before .before .before .pre, e, omega (arith, f .inside), c .if2 .taken)
+    let at-n = c .before .before .before .before in
+    let at-number-at = at-n .before .before in
+    let at-args = at-number-at .before .before in
+    let e = sym (at-number-at .number-at .ensures) ∙ at-n .n .given .1 in
+    let f = start-to (λ _. at-args .args .chrom) (at-args .pre) e in
+    (at-args .pre, e, omega (arith, f .inside), c .if2 .taken)
 
 returns-2 : tie.Need-returns-2
 returns-2 c = search needs
 
 returns-3 : tie.Need-returns-3
-returns-3 c = row-unstarted (λ _. c .before .before .before .before .args .chrom) (c .before .before .before .before .pre) (sym (c .before .before .number-at .ensures) ∙ c .enum-told .given .1)
+returns-3 c =
+    let at-number-at = c .before .before in
+    let at-args = at-number-at .before .before in
+    row-unstarted (λ _. at-args .args .chrom) (at-args .pre) (sym (at-number-at .number-at .ensures) ∙ c .enum-told .given .1)
 
 returns-4 : tie.Need-returns-4
 returns-4 c =
-    let e = sym (c .before .before .before .before .before .before .number-at .ensures) ∙ c .before .before .before .before .n .given .1 in
-    let f = start-to (λ _. c .before .before .before .before .before .before .before .before .args .chrom) (c .before .before .before .before .before .before .before .before .pre) e in
-    row-two-out (λ _. c .before .before .before .before .before .before .before .before .args .chrom) (c .before .before .before .before .before .before .before .before .pre) e (omega (arith, f .inside)) (c .if2 .left)
+    let at-n = c .before .before .before .before in
+    let at-number-at = at-n .before .before in
+    let at-args = at-number-at .before .before in
+    let e = sym (at-number-at .number-at .ensures) ∙ at-n .n .given .1 in
+    let f = start-to (λ _. at-args .args .chrom) (at-args .pre) e in
+    row-two-out (λ _. at-args .args .chrom) (at-args .pre) e (omega (arith, f .inside)) (c .if2 .left)
 
 pub start-at-spec : {M : Type 1} → statement M
 start-at-spec =

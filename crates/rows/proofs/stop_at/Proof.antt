@@ -6,8 +6,8 @@ use Rattle.rows.proofs.stop_at.Statement.{statement}
 use Rattle.rows.proofs.stop_at.Tie as tie
 use Rattle.rows.proofs.stop_at.Reads as reads
 use Rattle.rows.proofs.stop_at.Lts as lts
-use Rattle.text.proofs.next_line.Reads as next-line-reads
-use Rattle.text.proofs.number_at.Reads as number-at-reads
+use Rattle.fields.proofs.next_line.Reads as next-line-reads
+use Rattle.fields.proofs.number_at.Reads as number-at-reads
 
 add-number-at : tie.Need-add-number-at
 add-number-at c = search needs
@@ -22,13 +22,24 @@ enum-known-n : tie.Need-enum-known-n
 enum-known-n c = search needs
 
 next-line-requires : tie.Need-next-line-requires
-next-line-requires c κs = stop-to (λ _. c .before .before .before .before .before .args .chrom) (c .before .before .before .before .before .pre .0) (c .before .before .before .before .before .pre .1) (c .before .before .before .before .before .pre .2) (c .before .before .before .before .before .pre .3) (sym (c .before .before .before .number-at .ensures) ∙ c .before .n .given .1) .inside
+next-line-requires c κs =
+    let at-n = c .before in
+    let at-number-at = at-n .before .before in
+    let at-args = at-number-at .before .before in
+    stop-to (λ _. at-args .args .chrom) (at-args .pre .0) (at-args .pre .1) (at-args .pre .2) (at-args .pre .3) (sym (at-number-at .number-at .ensures) ∙ at-n .n .given .1) .inside
 
 returns : tie.Need-returns
-returns c = row-unstopped (λ _. c .before .before .before .before .args .chrom) (c .before .before .before .before .pre .0) (c .before .before .before .before .pre .1) (c .before .before .before .before .pre .2) (c .before .before .before .before .pre .3) (sym (c .before .before .number-at .ensures) ∙ c .enum-told .given .1)
+returns c =
+    let at-number-at = c .before .before in
+    let at-args = at-number-at .before .before in
+    row-unstopped (λ _. at-args .args .chrom) (at-args .pre .0) (at-args .pre .1) (at-args .pre .2) (at-args .pre .3) (sym (at-number-at .number-at .ensures) ∙ c .enum-told .given .1)
 
 returns-2 : tie.Need-returns-2
-returns-2 c = row-whole (λ _. c .before .before .before .before .before .before .args .chrom) (c .before .before .before .before .before .before .pre .0) (c .before .before .before .before .before .before .pre .1) (c .before .before .before .before .before .before .pre .2) (c .before .before .before .before .before .before .pre .3) (sym (c .before .before .before .before .number-at .ensures) ∙ c .before .before .n .given .1) _ (c .next-line .ensures .0)
+returns-2 c =
+    let at-n = c .before .before in
+    let at-number-at = at-n .before .before in
+    let at-args = at-number-at .before .before in
+    row-whole (λ _. at-args .args .chrom) (at-args .pre .0) (at-args .pre .1) (at-args .pre .2) (at-args .pre .3) (sym (at-number-at .number-at .ensures) ∙ at-n .n .given .1) _ (c .next-line .ensures .0)
 
 pub stop-at-spec : {M : Type 1} → statement M
 stop-at-spec =

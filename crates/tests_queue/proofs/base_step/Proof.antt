@@ -13,16 +13,16 @@ clear-requires c κs = search needs
 
 scan-requires : tie.Need-scan-requires
 scan-requires c κs =
-    let at-clear = c .before .before .before .before .before .before .before .before .before .before .before .before .before .before in
-    let at-start = at-clear .before .before .before .before .before .before .before .before .before .before .before .before in
-    record { fair = at-clear .clear .ensures .fair; cleared = cleared-live (at-start .args .b) (at-clear .clear .ensures); streams = omega (arith, at-clear .clear .ensures .room, at-start .pre .streams); rows = omega (arith, at-clear .clear .ensures .room, at-start .pre .rows) }
+    let at-clear = c .before .before .before in
+    let at-args = at-clear .before .before .before in
+    record { fair = at-clear .clear .ensures .fair; cleared = cleared-live (at-args .args .b) (at-clear .clear .ensures); answers = omega (arith, at-clear .clear .ensures .room, at-args .pre .answers) }
 
 show-hits-requires : tie.Need-show-hits-requires
 show-hits-requires c κs =
-    let at-scan = c .before .before .before .before .before .before in
-    let at-clear = at-scan .before .before .before .before .before .before .before .before .before .before .before .before .before .before .before in
-    let at-start = at-clear .before .before .before .before .before .before .before .before .before .before .before .before in
-    omega (arith, scan-few (at-clear .clear .result) _ (at-start .args .b) (at-scan .scan .ensures), at-clear .clear .ensures .fair .sound .fits, at-clear .clear .ensures .room, at-start .pre .streams, at-start .pre .rows, at-scan .scan .kept)
+    let at-scan = c .before .before in
+    let at-clear = at-scan .before .before .before .before in
+    let at-args = at-clear .before .before .before in
+    omega (arith, scan-few (at-clear .clear .result) _ (at-args .args .b) (at-scan .scan .ensures), at-clear .clear .ensures .fair .sound .fits, at-clear .clear .ensures .room, at-args .pre .answers, at-scan .scan .kept)
 
 front-requires : tie.Need-front-requires
 front-requires c κs = search needs
@@ -34,22 +34,12 @@ show-requires : tie.Need-show-requires
 show-requires c κs = search needs
 
 same-length : tie.Need-same-length
-same-length c = c .before .before .before .before .before .before .before .before .before .before .before .before .before .before .before .before .before .before .before .before .before .before .before .before .before .before .before .before .before .stream .given
+same-length c =
+    let at-queue = c .before .before .before .before .before .before .before .before .before .before .before in
+    at-queue .queue .given
 
 same-length-2 : tie.Need-same-length-2
-same-length-2 c = c .before .before .before .before .before .before .before .before .before .before .before .before .before .before .before .before .before .before .before .before .before .before .before .before .before .before .before .row .given
-
-same-length-3 : tie.Need-same-length-3
-same-length-3 c = c .before .before .before .before .before .before .before .before .before .before .before .before .before .before .before .before .before .before .before .before .before .before .before .before .before .start .given
-
-same-length-4 : tie.Need-same-length-4
-same-length-4 c = c .before .before .before .before .before .before .before .before .before .before .before .before .before .before .before .before .before .before .before .before .before .before .before .stop .given
-
-same-length-5 : tie.Need-same-length-5
-same-length-5 c = c .before .before .before .before .before .before .before .before .before .before .before .before .before .before .streams .given
-
-same-length-6 : tie.Need-same-length-6
-same-length-6 c = c .before .before .before .before .before .before .before .before .before .before .before .before .rows .given
+same-length-2 c = c .before .before .before .before .before .before .before .answers .given
 
 returns : tie.Need-returns
 returns c = search needs
@@ -67,8 +57,4 @@ base-step-spec =
     show-requires
     same-length
     same-length-2
-    same-length-3
-    same-length-4
-    same-length-5
-    same-length-6
     returns)

@@ -6,92 +6,67 @@ use Rattle.tests_queue.proofs.play.Tie as tie
 array-read-if1 : tie.Need-array-read-if1
 array-read-if1 c = search needs
 
-array-read-t18 : tie.Need-array-read-t18
-array-read-t18 c = search needs
-
-array-read-t22 : tie.Need-array-read-t22
-array-read-t22 c = search needs
-
-array-read-t25 : tie.Need-array-read-t25
-array-read-t25 c = search needs
-
-array-read-t28 : tie.Need-array-read-t28
-array-read-t28 c = search needs
-
-push-step-requires : tie.Need-push-step-requires
-push-step-requires c κs = c .before .before .before .before .before .before .before .before .before .before .before .pre .fair
-
-same-length : tie.Need-same-length
-same-length c = c .before .before .before .before .before .before .before .stream .given
-
-same-length-2 : tie.Need-same-length-2
-same-length-2 c = c .before .before .before .before .before .row .given
-
-same-length-3 : tie.Need-same-length-3
-same-length-3 c = c .before .before .before .start .given
-
-same-length-4 : tie.Need-same-length-4
-same-length-4 c = c .before .stop .given
-
-returns : tie.Need-returns
-returns c = c .before .before .before .before .before .before .before .before .push-step .ensures
-
 array-read-t14 : tie.Need-array-read-t14
 array-read-t14 c = search needs
 
-array-read-t42 : tie.Need-array-read-t42
-array-read-t42 c = search needs
+array-read-t18 : tie.Need-array-read-t18
+array-read-t18 c = search needs
 
-array-read-t45 : tie.Need-array-read-t45
-array-read-t45 c = search needs
+array-read-t21 : tie.Need-array-read-t21
+array-read-t21 c = search needs
+
+array-read-t24 : tie.Need-array-read-t24
+array-read-t24 c = search needs
+
+push-step-requires : tie.Need-push-step-requires
+push-step-requires c κs =
+    c .before .before .pre .fair
+
+same-length : tie.Need-same-length
+same-length c = c .queue .given
+
+returns : tie.Need-returns
+returns c = c .before .push-step .ensures
+
+array-read-t10 : tie.Need-array-read-t10
+array-read-t10 c = search needs
+
+array-read-t32 : tie.Need-array-read-t32
+array-read-t32 c = search needs
+
+array-read-t35 : tie.Need-array-read-t35
+array-read-t35 c = search needs
 
 base-step-requires : tie.Need-base-step-requires
-base-step-requires c κs = c .before .before .before .before .before .before .before .before .before .before .before .before .before .pre
+base-step-requires c κs =
+    c .before .before .before .pre
 
-same-length-5 : tie.Need-same-length-5
-same-length-5 c = c .before .before .before .before .before .before .before .before .before .before .before .stream2 .given
+same-length-2 : tie.Need-same-length-2
+same-length-2 c = c .before .queue2 .given
 
-same-length-6 : tie.Need-same-length-6
-same-length-6 c = c .before .before .before .before .before .before .before .before .before .row2 .given
-
-same-length-7 : tie.Need-same-length-7
-same-length-7 c = c .before .before .before .before .before .before .before .start2 .given
-
-same-length-8 : tie.Need-same-length-8
-same-length-8 c = c .before .before .before .before .before .stop2 .given
-
-same-length-9 : tie.Need-same-length-9
-same-length-9 c = c .before .before .before .streams .given
-
-same-length-10 : tie.Need-same-length-10
-same-length-10 c = c .before .rows .given
+same-length-3 : tie.Need-same-length-3
+same-length-3 c = c .answers .given
 
 returns-2 : tie.Need-returns-2
-returns-2 c = c .before .before .before .before .before .before .before .before .before .before .before .before .base-step .ensures
+returns-2 c =
+    c .before .before .base-step .ensures
 
 pub play-spec : {M : Type 1} → statement M
 play-spec =
     tie.close
     (tie.spec
     array-read-if1
+    array-read-t14
     array-read-t18
-    array-read-t22
-    array-read-t25
-    array-read-t28
+    array-read-t21
+    array-read-t24
     push-step-requires
     same-length
+    returns
+    array-read-t10
+    array-read-t32
+    array-read-t35
+    base-step-requires
     same-length-2
     same-length-3
-    same-length-4
-    returns
-    array-read-t14
-    array-read-t42
-    array-read-t45
-    base-step-requires
-    same-length-5
-    same-length-6
-    same-length-7
-    same-length-8
-    same-length-9
-    same-length-10
     returns-2)

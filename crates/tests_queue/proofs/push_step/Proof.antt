@@ -15,9 +15,7 @@ enum-known-pushed c = search needs
 
 show-requires : tie.Need-show-requires
 show-requires c κs =
-    let at-pushed = c .before .before .before .before .before in
-    let at-push = at-pushed .before .before .before .before .before .before .before .before .before .before in
-    at-push .push .ensures .done _ (at-pushed .pushed .given .1) .fair
+    c .before .before .before .before .before .push .ensures .done _ (c .before .before .pushed .given .1) .fair
 
 enum-told : tie.Need-enum-told
 enum-told c = search needs
@@ -32,41 +30,23 @@ show-requires-2 : tie.Need-show-requires-2
 show-requires-2 c κs = search needs
 
 same-length : tie.Need-same-length
-same-length c = c .before .before .before .before .before .before .before .before .before .before .before .before .before .before .before .stream .given
-
-same-length-2 : tie.Need-same-length-2
-same-length-2 c = c .before .before .before .before .before .before .before .before .before .before .before .before .before .row .given
-
-same-length-3 : tie.Need-same-length-3
-same-length-3 c = c .before .before .before .before .before .before .before .before .before .before .before .start .given
-
-same-length-4 : tie.Need-same-length-4
-same-length-4 c = c .before .before .before .before .before .before .before .before .before .stop .given
+same-length c = c .before .before .before .before .before .queue .given
 
 returns : tie.Need-returns
 returns c =
-    let at-pushed = c .before .before .before .before .before .before in
-    let at-push = at-pushed .before .before .before .before .before .before .before .before .before .before in
+    let at-pushed = c .before .before .before in
+    let at-push = at-pushed .before .before .before in
     (at-push .push .ensures .done _ (at-pushed .pushed .given .1) .fair, at-push .push .ensures .done _ (at-pushed .pushed .given .1) .room)
 
-same-length-5 : tie.Need-same-length-5
-same-length-5 c = c .before .before .before .before .before .before .before .before .before .before .before .before .before .before .before .before .stream .given
-
-same-length-6 : tie.Need-same-length-6
-same-length-6 c = c .before .before .before .before .before .before .before .before .before .before .before .before .before .before .row .given
-
-same-length-7 : tie.Need-same-length-7
-same-length-7 c = c .before .before .before .before .before .before .before .before .before .before .before .before .start .given
-
-same-length-8 : tie.Need-same-length-8
-same-length-8 c = c .before .before .before .before .before .before .before .before .before .before .stop .given
+same-length-2 : tie.Need-same-length-2
+same-length-2 c = c .before .before .before .before .before .before .queue .given
 
 returns-2 : tie.Need-returns-2
 returns-2 c =
-    let at-enum-told = c .before .before .before .before .before .before .before in
-    let at-push = at-enum-told .before .before .before .before .before .before .before .before .before .before in
-    let at-start = at-push .before .before .before .before .before .before .before .before .before .before in
-    (rw (at-push .push .ensures .full (at-enum-told .enum-told .given .1) .same) (at-start .pre), refl)
+    let at-enum-told = c .before .before .before .before in
+    let at-push = at-enum-told .before .before .before in
+    let at-pre = at-push .before .before .before in
+    (rw (at-push .push .ensures .full (at-enum-told .enum-told .given .1) .same) (at-pre .pre), refl)
 
 pub push-step-spec : {M : Type 1} → statement M
 push-step-spec =
@@ -81,12 +61,6 @@ push-step-spec =
     write-all-requires
     show-requires-2
     same-length
-    same-length-2
-    same-length-3
-    same-length-4
     returns
-    same-length-5
-    same-length-6
-    same-length-7
-    same-length-8
+    same-length-2
     returns-2)

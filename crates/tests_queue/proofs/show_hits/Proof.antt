@@ -5,28 +5,28 @@ use Rattle.tests_queue.proofs.show_hits.Statement.{statement}
 use Rattle.tests_queue.proofs.show_hits.Tie as tie
 
 abbrev Inv-loop : tie.InvT-loop
-Inv-loop n streams rows i₀ i = i ≤ n
+Inv-loop n answers i₀ i = i ≤ n
 
 abbrev μ-loop : tie.MeasureT-loop
-μ-loop n streams rows i₀ i = n - i
+μ-loop n answers i₀ i = n - i
 
 loop-holds : tie.Need-loop-holds Inv-loop μ-loop
 loop-holds c = search needs
 
-mul-show-hit : tie.Need-mul-show-hit Inv-loop μ-loop
-mul-show-hit c = search needs
+mul-x : tie.Need-mul-x Inv-loop μ-loop
+mul-x c = search needs
 
-shared-slice-read-show-hit : tie.Need-shared-slice-read-show-hit Inv-loop μ-loop
-shared-slice-read-show-hit c = search needs
+shared-slice-copy-out-x : tie.Need-shared-slice-copy-out-x Inv-loop μ-loop
+shared-slice-copy-out-x c = search needs
 
-mul-show-hit-2 : tie.Need-mul-show-hit-2 Inv-loop μ-loop
-mul-show-hit-2 c = search needs
+array-read-show-hit : tie.Need-array-read-show-hit Inv-loop μ-loop
+array-read-show-hit c = search needs
 
-shared-slice-read-show-hit-2 : tie.Need-shared-slice-read-show-hit-2 Inv-loop μ-loop
-shared-slice-read-show-hit-2 c = search needs
+array-read-show-hit-2 : tie.Need-array-read-show-hit-2 Inv-loop μ-loop
+array-read-show-hit-2 c = search needs
 
 show-hit-requires : tie.Need-show-hit-requires Inv-loop μ-loop
-show-hit-requires c κs = tt
+show-hit-requires c κs = search needs
 
 add-i : tie.Need-add-i Inv-loop μ-loop
 add-i c = search needs
@@ -47,10 +47,10 @@ show-hits-spec =
     Inv-loop
     μ-loop
     loop-holds
-    mul-show-hit
-    shared-slice-read-show-hit
-    mul-show-hit-2
-    shared-slice-read-show-hit-2
+    mul-x
+    shared-slice-copy-out-x
+    array-read-show-hit
+    array-read-show-hit-2
     show-hit-requires
     add-i
     loop-less

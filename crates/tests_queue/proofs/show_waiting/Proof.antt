@@ -5,10 +5,10 @@ use Rattle.tests_queue.proofs.show_waiting.Statement.{statement}
 use Rattle.tests_queue.proofs.show_waiting.Tie as tie
 
 abbrev Inv-loop : tie.InvT-loop
-Inv-loop stream row start stop head len room k₀ k = k ≤ len
+Inv-loop queue head len room k₀ k = k ≤ len
 
 abbrev μ-loop : tie.MeasureT-loop
-μ-loop stream row start stop head len room k₀ k = len - k
+μ-loop queue head len room k₀ k = len - k
 
 loop-holds : tie.Need-loop-holds Inv-loop μ-loop
 loop-holds c = search needs
@@ -16,32 +16,26 @@ loop-holds c = search needs
 place-of-requires : tie.Need-place-of-requires Inv-loop μ-loop
 place-of-requires c κs = search needs
 
-mul-show-record : tie.Need-mul-show-record Inv-loop μ-loop
-mul-show-record c = search needs
+mul-x : tie.Need-mul-x Inv-loop μ-loop
+mul-x c = search needs
 
-shared-slice-read-show-record : tie.Need-shared-slice-read-show-record Inv-loop μ-loop
-shared-slice-read-show-record c = search needs
+shared-slice-copy-out-x : tie.Need-shared-slice-copy-out-x Inv-loop μ-loop
+shared-slice-copy-out-x c = search needs
 
-mul-show-record-2 : tie.Need-mul-show-record-2 Inv-loop μ-loop
-mul-show-record-2 c = search needs
+array-read-show-record : tie.Need-array-read-show-record Inv-loop μ-loop
+array-read-show-record c = search needs
 
-shared-slice-read-show-record-2 : tie.Need-shared-slice-read-show-record-2 Inv-loop μ-loop
-shared-slice-read-show-record-2 c = search needs
+array-read-show-record-2 : tie.Need-array-read-show-record-2 Inv-loop μ-loop
+array-read-show-record-2 c = search needs
 
-mul-show-record-3 : tie.Need-mul-show-record-3 Inv-loop μ-loop
-mul-show-record-3 c = search needs
+array-read-show-record-3 : tie.Need-array-read-show-record-3 Inv-loop μ-loop
+array-read-show-record-3 c = search needs
 
-shared-slice-read-show-record-3 : tie.Need-shared-slice-read-show-record-3 Inv-loop μ-loop
-shared-slice-read-show-record-3 c = search needs
-
-mul-show-record-4 : tie.Need-mul-show-record-4 Inv-loop μ-loop
-mul-show-record-4 c = search needs
-
-shared-slice-read-show-record-4 : tie.Need-shared-slice-read-show-record-4 Inv-loop μ-loop
-shared-slice-read-show-record-4 c = search needs
+array-read-show-record-4 : tie.Need-array-read-show-record-4 Inv-loop μ-loop
+array-read-show-record-4 c = search needs
 
 show-record-requires : tie.Need-show-record-requires Inv-loop μ-loop
-show-record-requires c κs = tt
+show-record-requires c κs = search needs
 
 add-k : tie.Need-add-k Inv-loop μ-loop
 add-k c = search needs
@@ -63,14 +57,12 @@ show-waiting-spec =
     μ-loop
     loop-holds
     place-of-requires
-    mul-show-record
-    shared-slice-read-show-record
-    mul-show-record-2
-    shared-slice-read-show-record-2
-    mul-show-record-3
-    shared-slice-read-show-record-3
-    mul-show-record-4
-    shared-slice-read-show-record-4
+    mul-x
+    shared-slice-copy-out-x
+    array-read-show-record
+    array-read-show-record-2
+    array-read-show-record-3
+    array-read-show-record-4
     show-record-requires
     add-k
     loop-less

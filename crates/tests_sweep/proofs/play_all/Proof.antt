@@ -6,11 +6,11 @@ use Rattle.tests_sweep.proofs.play_all.Statement.{statement}
 use Rattle.tests_sweep.proofs.play_all.Tie as tie
 
 abbrev Inv-loop : tie.InvT-loop
-Inv-loop text chrom₀ start₀ stop₀ qstream₀ qrow₀ qstart₀ qstop₀ bench₀ at₀ chrom start stop qstream qrow qstart qstop bench at =
+Inv-loop text chrom₀ start₀ stop₀ queue₀ bench₀ at₀ chrom start stop queue bench at =
     at ≤ length text
 
 abbrev μ-loop : tie.MeasureT-loop
-μ-loop text chrom₀ start₀ stop₀ qstream₀ qrow₀ qstart₀ qstop₀ bench₀ at₀ chrom start stop qstream qrow qstart qstop bench at = length text - at
+μ-loop text chrom₀ start₀ stop₀ queue₀ bench₀ at₀ chrom start stop queue bench at = length text - at
 
 fresh-requires : tie.Need-fresh-requires Inv-loop μ-loop
 fresh-requires c κs = search needs
@@ -40,7 +40,9 @@ end-line-requires : tie.Need-end-line-requires Inv-loop μ-loop
 end-line-requires c κs = search needs
 
 line-end-requires : tie.Need-line-end-requires Inv-loop μ-loop
-line-end-requires c κs = c .before .before .before .before .before .before .before .before .before .before .before .before .before .before .before .before .before .before .before .before .before .loop-test .taken
+line-end-requires c κs =
+    let at-loop-test = c .before .before .before .before .before .before .before .before .before .before .before .before .before .before .before in
+    at-loop-test .loop-test .taken
 
 loop-less : tie.Need-loop-less Inv-loop μ-loop
 loop-less c = search needs

@@ -1,5 +1,5 @@
 -- `cedarlash_read_list` meets its contract.
-use Rattle.inplace.proofs.HeldLaws.{tallies-so}
+use Rattle.inplace.proofs.CallLaws.{tallies-so}
 use Rattle.inplace.proofs.readers.cedarlash_read_list.Statement.{statement}
 use Rattle.inplace.proofs.readers.cedarlash_read_list.Tie as tie
 

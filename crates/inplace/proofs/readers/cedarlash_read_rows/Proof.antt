@@ -1,5 +1,5 @@
 -- `cedarlash_read_rows` meets its contract.
-use Rattle.inplace.proofs.HeldLaws.{tallies-so}
+use Rattle.inplace.proofs.CallLaws.{tallies-so}
 use Rattle.inplace.proofs.readers.cedarlash_read_rows.Statement.{statement}
 use Rattle.inplace.proofs.readers.cedarlash_read_rows.Tie as tie
 

@@ -9,10 +9,10 @@ use Rattle.queue.proofs.Ring.live_ahead.Statement.{statement}
 use Rattle.queue.proofs.Ring.live_ahead.Tie as tie
 
 abbrev Inv-loop : tie.InvT-loop
-Inv-loop stop from head len room k₀ k = Leading head len room stop from k
+Inv-loop queue from head len room k₀ k = Leading head len room queue from k
 
 abbrev μ-loop : tie.MeasureT-loop
-μ-loop stop from head len room k₀ k = len - k
+μ-loop queue from head len room k₀ k = len - k
 
 loop-holds : tie.Need-loop-holds Inv-loop μ-loop
 loop-holds c = record { within = omega arith; each = λ j h. absurd (omega arith) }
@@ -20,23 +20,26 @@ loop-holds c = record { within = omega arith; each = λ j h. absurd (omega arith
 place-of-requires : tie.Need-place-of-requires Inv-loop μ-loop
 place-of-requires c κs = search needs
 
-mul-is-live : tie.Need-mul-is-live Inv-loop μ-loop
-mul-is-live c = search needs
+mul-lasts : tie.Need-mul-lasts Inv-loop μ-loop
+mul-lasts c = search needs
 
-shared-slice-read-is-live : tie.Need-shared-slice-read-is-live Inv-loop μ-loop
-shared-slice-read-is-live c = search needs
+index-1-lasts : tie.Need-index-1-lasts Inv-loop μ-loop
+index-1-lasts c = search needs
 
-is-live-requires : tie.Need-is-live-requires Inv-loop μ-loop
-is-live-requires c κs = search needs
+index-2-lasts : tie.Need-index-2-lasts Inv-loop μ-loop
+index-2-lasts c = search needs
+
+lasts-requires : tie.Need-lasts-requires Inv-loop μ-loop
+lasts-requires c κs = search needs
 
 returns : tie.Need-returns Inv-loop μ-loop
 returns c =
-    let at-is-live = c .before in
-    let at-place-of = at-is-live .before .before in
+    let at-lasts = c .before in
+    let at-place-of = at-lasts .before .before in
     let at-loop-test = at-place-of .before in
     let at-loop = at-loop-test .before in
-    let at-start = at-loop .before .before in
-    leading-stop (at-start .args .self) _ _ _ (at-loop .loop .inv) _ (at-loop-test .loop-test .taken) (at-place-of .place-of .ensures .0) (sym (at-is-live .is-live .ensures) ∙ not-true _ (c .if1 .taken))
+    let at-args = at-loop .before in
+    leading-stop (at-args .args .self) _ _ _ (at-loop .loop .inv) _ (at-loop-test .loop-test .taken) (at-place-of .place-of .ensures .0) (sym (at-lasts .lasts .ensures) ∙ not-true _ (c .if1 .taken))
 
 add-k : tie.Need-add-k Inv-loop μ-loop
 add-k c = search needs
@@ -46,18 +49,15 @@ loop-less c = search needs
 
 loop-again : tie.Need-loop-again Inv-loop μ-loop
 loop-again c =
-    let at-is-live = c .before in
-    let at-place-of = at-is-live .before .before in
+    let at-lasts = c .before in
+    let at-place-of = at-lasts .before .before in
     let at-loop-test = at-place-of .before in
     let at-loop = at-loop-test .before in
-    let at-start = at-loop .before .before in
-    leading-next (at-start .args .self) _ _ _ (at-loop .loop .inv) _ (at-loop-test .loop-test .taken) (at-place-of .place-of .ensures .0) (sym (at-is-live .is-live .ensures) ∙ not-false _ (c .if1 .left))
+    let at-args = at-loop .before in
+    leading-next (at-args .args .self) _ _ _ (at-loop .loop .inv) _ (at-loop-test .loop-test .taken) (at-place-of .place-of .ensures .0) (sym (at-lasts .lasts .ensures) ∙ not-false _ (c .if1 .left))
 
 returns-2 : tie.Need-returns-2 Inv-loop μ-loop
-returns-2 c =
-    let at-loop = c .before in
-    let at-start = at-loop .before .before in
-    leading-end (at-start .args .self) _ _ _ (at-loop .loop .inv) (c .loop-test .left)
+returns-2 c = leading-end (c .before .before .args .self) _ _ _ (c .before .loop .inv) (c .loop-test .left)
 
 pub live-ahead-spec : {M : Type 1} → statement M
 live-ahead-spec =
@@ -67,9 +67,10 @@ live-ahead-spec =
     μ-loop
     loop-holds
     place-of-requires
-    mul-is-live
-    shared-slice-read-is-live
-    is-live-requires
+    mul-lasts
+    index-1-lasts
+    index-2-lasts
+    lasts-requires
     returns
     add-k
     loop-less

@@ -8,31 +8,29 @@ use Rattle.queue.proofs.Ring.skip.Statement.{statement}
 use Rattle.queue.proofs.Ring.skip.Tie as tie
 
 abbrev Inv-loop : tie.InvT-loop
-Inv-loop stop from room chrom head₀ len₀ head len =
-    Skipping (record { head = head₀; len = len₀; room = room; chrom = chrom }) (record { head = head; len = len; room = room; chrom = chrom }) stop from
+Inv-loop queue from room chrom head₀ len₀ head len =
+    Skipping (record { head = head₀; len = len₀; room = room; chrom = chrom }) (record { head = head; len = len; room = room; chrom = chrom }) queue from
 
 abbrev μ-loop : tie.MeasureT-loop
-μ-loop stop from room chrom head₀ len₀ head len = len
+μ-loop queue from room chrom head₀ len₀ head len = len
 
 loop-holds : tie.Need-loop-holds Inv-loop μ-loop
-loop-holds c =
-    let at-start = c .before .before in
-    skipping-start _ _ _ (at-start .pre .0)
+loop-holds c = skipping-start _ _ _ (c .before .pre .sound)
 
-mul-is-live : tie.Need-mul-is-live Inv-loop μ-loop
-mul-is-live c = search needs
+mul-lasts : tie.Need-mul-lasts Inv-loop μ-loop
+mul-lasts c = search needs
 
-shared-slice-read-is-live : tie.Need-shared-slice-read-is-live Inv-loop μ-loop
-shared-slice-read-is-live c = search needs
+index-1-lasts : tie.Need-index-1-lasts Inv-loop μ-loop
+index-1-lasts c = search needs
 
-is-live-requires : tie.Need-is-live-requires Inv-loop μ-loop
-is-live-requires c κs = search needs
+index-2-lasts : tie.Need-index-2-lasts Inv-loop μ-loop
+index-2-lasts c = search needs
+
+lasts-requires : tie.Need-lasts-requires Inv-loop μ-loop
+lasts-requires c κs = search needs
 
 returns : tie.Need-returns Inv-loop μ-loop
-returns c =
-    let at-is-live = c .before in
-    let at-loop = at-is-live .before .before .before in
-    skipping-stop _ _ _ _ (at-loop .loop .inv) (at-loop .loop .len - 1) _ (omega arith) refl (sym (at-is-live .is-live .ensures) ∙ c .if1 .taken)
+returns c = skipping-stop _ _ _ _ (c .before .before .before .before .loop .inv) ((c .before .before .before .before .loop .len) - 1) _ (omega arith) refl (sym (c .before .lasts .ensures) ∙ (c .if1 .taken))
 
 place-of-requires : tie.Need-place-of-requires Inv-loop μ-loop
 place-of-requires c κs = search needs
@@ -46,14 +44,12 @@ loop-less c = search needs
 loop-again : tie.Need-loop-again Inv-loop μ-loop
 loop-again c =
     let at-if1 = c .before in
-    let at-is-live = at-if1 .before in
-    let at-loop = at-is-live .before .before .before in
-    skipping-next _ _ _ _ (at-loop .loop .inv) (at-loop .loop .len - 1) _ (omega arith) (c .place-of .ensures .0) (sym (at-is-live .is-live .ensures) ∙ at-if1 .if1 .left) (c .place-of .ensures .1)
+    let at-lasts = at-if1 .before in
+    let at-loop = at-lasts .before .before .before in
+    skipping-next _ _ _ _ (at-loop .loop .inv) ((at-loop .loop .len) - 1) _ (omega arith) (c .place-of .ensures .0) (sym (at-lasts .lasts .ensures) ∙ (at-if1 .if1 .left)) (c .place-of .ensures .1)
 
 returns-2 : tie.Need-returns-2 Inv-loop μ-loop
-returns-2 c =
-    let at-loop = c .before in
-    skipping-end _ _ _ _ (at-loop .loop .inv) (omega arith)
+returns-2 c = skipping-end _ _ _ _ (c .before .loop .inv) (omega arith)
 
 pub skip-spec : {M : Type 1} → statement M
 skip-spec =
@@ -62,9 +58,10 @@ skip-spec =
     Inv-loop
     μ-loop
     loop-holds
-    mul-is-live
-    shared-slice-read-is-live
-    is-live-requires
+    mul-lasts
+    index-1-lasts
+    index-2-lasts
+    lasts-requires
     returns
     place-of-requires
     sub-len

@@ -5,20 +5,26 @@ use Rattle.tests_sweep.proofs.given.marks.Statement.{statement}
 use Rattle.tests_sweep.proofs.given.marks.Tie as tie
 
 abbrev Inv-loop : tie.InvT-loop
-Inv-loop s from to count₀ i₀ count i =
+Inv-loop answers from to streams₀ rows₀ i₀ streams rows i =
     from ≤ i
 
 abbrev μ-loop : tie.MeasureT-loop
-μ-loop s from to count₀ i₀ count i = to - i
+μ-loop answers from to streams₀ rows₀ i₀ streams rows i = to - i
 
 loop-holds : tie.Need-loop-holds Inv-loop μ-loop
 loop-holds c = search needs
 
-at-requires : tie.Need-at-requires Inv-loop μ-loop
-at-requires c κs = search needs
+stream-at-requires : tie.Need-stream-at-requires Inv-loop μ-loop
+stream-at-requires c κs = search needs
 
-more-requires : tie.Need-more-requires Inv-loop μ-loop
-more-requires c κs = search needs
+counted-requires : tie.Need-counted-requires Inv-loop μ-loop
+counted-requires c κs = search needs
+
+row-at-requires : tie.Need-row-at-requires Inv-loop μ-loop
+row-at-requires c κs = search needs
+
+counted-requires-2 : tie.Need-counted-requires-2 Inv-loop μ-loop
+counted-requires-2 c κs = search needs
 
 add-i : tie.Need-add-i Inv-loop μ-loop
 add-i c = search needs
@@ -39,8 +45,10 @@ marks-spec =
     Inv-loop
     μ-loop
     loop-holds
-    at-requires
-    more-requires
+    stream-at-requires
+    counted-requires
+    row-at-requires
+    counted-requires-2
     add-i
     loop-less
     loop-again

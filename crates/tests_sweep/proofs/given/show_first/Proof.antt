@@ -5,11 +5,11 @@ use Rattle.tests_sweep.proofs.given.show_first.Statement.{statement}
 use Rattle.tests_sweep.proofs.given.show_first.Tie as tie
 
 abbrev Inv-loop : tie.InvT-loop
-Inv-loop n streams rows i₀ i =
+Inv-loop n answers i₀ i =
     i ≤ n
 
 abbrev μ-loop : tie.MeasureT-loop
-μ-loop n streams rows i₀ i = n - i
+μ-loop n answers i₀ i = n - i
 
 loop-holds : tie.Need-loop-holds Inv-loop μ-loop
 loop-holds c = search needs
@@ -17,11 +17,11 @@ loop-holds c = search needs
 returns : tie.Need-returns Inv-loop μ-loop
 returns c = search needs
 
-at-requires : tie.Need-at-requires Inv-loop μ-loop
-at-requires c κs = search needs
+stream-at-requires : tie.Need-stream-at-requires Inv-loop μ-loop
+stream-at-requires c κs = search needs
 
-at-requires-2 : tie.Need-at-requires-2 Inv-loop μ-loop
-at-requires-2 c κs = search needs
+row-at-requires : tie.Need-row-at-requires Inv-loop μ-loop
+row-at-requires c κs = search needs
 
 show-pair-requires : tie.Need-show-pair-requires Inv-loop μ-loop
 show-pair-requires c κs = search needs
@@ -46,8 +46,8 @@ show-first-spec =
     μ-loop
     loop-holds
     returns
-    at-requires
-    at-requires-2
+    stream-at-requires
+    row-at-requires
     show-pair-requires
     add-i
     loop-less

@@ -1,0 +1,2 @@
+-- When a layout can be written.
+pub mod Ready

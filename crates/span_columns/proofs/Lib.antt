@@ -1,0 +1,2 @@
+-- Laws of spans that are written to two columns.
+pub mod Writing

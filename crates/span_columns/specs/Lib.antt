@@ -1,0 +1,2 @@
+-- Spans in two columns.
+pub mod Writing

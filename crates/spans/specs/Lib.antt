@@ -1,0 +1,4 @@
+-- What the contracts of `spans` cite.
+pub mod Spans
+pub mod Turn
+pub mod Fitting

@@ -1,2 +1,0 @@
--- Laws for the loop over the heads.
-pub mod Turning
