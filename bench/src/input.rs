@@ -138,8 +138,8 @@ impl Recipe {
         *RECIPES.iter().find(|r| r.name == name).unwrap_or_else(|| panic!("no input is called {name}"))
     }
 
-    /// Whether the bars speak of it.
-    pub fn is_barred(&self) -> bool {
+    /// Whether it is also measured with more rows, and from files to text.
+    pub fn is_filed(&self) -> bool {
         ["plain", "nested"].contains(&self.name)
     }
 

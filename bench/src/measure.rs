@@ -15,34 +15,72 @@ pub struct Plan<'a> {
     pub folder: &'a str,
 }
 
-/// A ratio for one input, by time and, where they are counted, by instructions.
-struct Reached {
-    input: &'static str,
-    time: f64,
-    instructions: Option<f64>,
+/// By what a ratio is taken.
+#[derive(Clone, Copy, PartialEq)]
+enum By {
+    Time,
+    Instructions,
 }
 
-/// A bar, and what was reached.
-struct Bar {
-    what: &'static str,
-    meets: fn(f64) -> bool,
-    reached: Vec<Reached>,
+/// What a bar asks of a ratio.
+#[derive(Clone, Copy)]
+enum Limit {
+    Most(f64),
+    Least(f64),
 }
 
-/// The ratios that the bars speak of; ours is by batches.
-const RATIOS: [&str; 2] = ["ours / plain", "the Rust / ours"];
+use By::{Instructions, Time};
+use Limit::{Least, Most};
 
-/// The bars as a table; time decides.
-fn told(bars: &[Bar]) -> String {
-    let mut table = Table::new(&["bar", "input", "by time", "by instructions", "by time it is"]);
-    for bar in bars {
-        for r in &bar.reached {
-            let instructions = r.instructions.map_or("".into(), |n| format!("{n:.2}"));
-            let met = if (bar.meets)(r.time) { "met" } else { "not met" };
-            table.line([bar.what.into(), r.input.into(), format!("{:.2}", r.time), instructions, met.into()]);
-        }
+/// The ratios of the sweep alone. Ours is by batches where nothing else is said.
+const RATIOS: [&str; 3] = ["ours / plain", "a base a call / plain", "the Rust / ours"];
+const FILES: &str = "bedtools / ours";
+
+/// The bars: the ratio, the input, by what, and what is asked.
+const BARS: [(&str, &str, By, Limit); 12] = [
+    (RATIOS[0], "plain", Time, Most(1.0)),
+    (RATIOS[0], "nested", Time, Most(1.0)),
+    (RATIOS[0], "eight", Time, Most(1.0)),
+    (RATIOS[0], "plain", Instructions, Most(1.25)),
+    (RATIOS[0], "nested", Instructions, Most(1.35)),
+    (RATIOS[0], "one", Instructions, Most(1.7)),
+    (RATIOS[0], "eight", Instructions, Most(0.9)),
+    (RATIOS[1], "plain", Instructions, Most(2.5)),
+    (RATIOS[2], "plain", Time, Least(6.0)),
+    (RATIOS[2], "nested", Time, Least(6.0)),
+    (FILES, "plain", Time, Least(2.0)),
+    (FILES, "nested", Time, Least(2.0)),
+];
+
+/// The ratios that were reached.
+#[derive(Default)]
+struct Reached(Vec<(&'static str, &'static str, By, f64)>);
+
+impl Reached {
+    fn add(&mut self, ratios: [f64; 3], input: &'static str, by: By) {
+        self.0.extend(RATIOS.into_iter().zip(ratios).map(|(what, ratio)| (what, input, by, ratio)));
     }
-    table.text()
+
+    fn at(&self, bar: (&str, &str, By, Limit)) -> f64 {
+        let found = self.0.iter().find(|r| (r.0, r.1, r.2) == (bar.0, bar.1, bar.2));
+        found.unwrap_or_else(|| panic!("{} of {} is measured", bar.0, bar.1)).3
+    }
+
+    /// The bars as a table.
+    fn told(&self) -> String {
+        let mut table = Table::new(&["ratio", "input", "by", "bar", "reached", "it is"]);
+        for bar in BARS {
+            let ratio = self.at(bar);
+            let (asked, met) = match bar.3 {
+                Most(most) => (format!("at most {most}"), ratio <= most),
+                Least(least) => (format!("at least {least}"), ratio >= least),
+            };
+            let by = if bar.2 == Time { "time" } else { "instructions" };
+            let met = if met { "met" } else { "not met" };
+            table.line([bar.0.into(), bar.1.into(), by.into(), asked, format!("{ratio:.2}"), met.into()]);
+        }
+        table.text()
+    }
 }
 
 /// The document's name for each of its places, and what stands there.
@@ -50,19 +88,17 @@ pub type Places = Vec<(&'static str, String)>;
 
 impl Plan<'_> {
     pub fn all(&self) -> Places {
-        let mut slower = Bar { what: "(a) ours / plain: at most 1.5", meets: |x| x <= 1.5, reached: vec![] };
-        let mut faster = Bar { what: "(a) the Rust / ours: at least 6", meets: |x| x >= 6.0, reached: vec![] };
-        let mut files = Bar { what: "(b) bedtools / ours: at least 2", meets: |x| x >= 2.0, reached: vec![] };
-        let times = self.sweeps(&mut slower, &mut faster);
-        let counts = self.counts(&mut slower, &mut faster);
+        let mut reached = Reached::default();
+        let times = self.sweeps(&mut reached);
+        let counts = self.counts(&mut reached);
         let growth = self.growth();
-        let (costs, lines) = self.files(&mut files);
+        let (costs, lines) = self.files(&mut reached);
         vec![
             ("records", commas(self.size.records)),
             ("bases", commas(self.size.bases)),
             ("rounds", self.rounds.to_string()),
             ("file rounds", self.file_rounds().to_string()),
-            ("bars", told(&[slower, faster, files])),
+            ("bars", reached.told()),
             ("sweeps", times),
             ("counts", counts),
             ("growth", growth),
@@ -82,17 +118,15 @@ impl Plan<'_> {
         times
     }
 
-    fn sweeps(&self, slower: &mut Bar, faster: &mut Bar) -> String {
+    fn sweeps(&self, reached: &mut Reached) -> String {
         let cost = ["ours, ns a record", "ours, a base a call", "plain", "the Rust"];
         let mut table = Table::new(&[&["input", "found"][..], &cost, &RATIOS].concat());
         for recipe in RECIPES {
             let bench = Bench::new(recipe.make(self.size));
             let found = bench.check();
             let [ours, single, plain, rust] = self.times(&bench, Who::ALL);
-            let ratios = [ours.over(&plain).median(), rust.over(&ours).median()];
-            for (bar, time) in [&mut *slower, &mut *faster].into_iter().zip(ratios).filter(|_| recipe.is_barred()) {
-                bar.reached.push(Reached { input: recipe.name, time, instructions: None });
-            }
+            let ratios = [ours.over(&plain), single.over(&plain), rust.over(&ours)].map(|r| r.median());
+            reached.add(ratios, recipe.name, Time);
             let head = [recipe.name.to_string(), commas(found)];
             let cells = [ours, single, plain, rust].map(|r| r.told(1));
             table.line(head.into_iter().chain(cells).chain(ratios.map(|r| format!("{r:.2}"))));
@@ -106,15 +140,13 @@ impl Plan<'_> {
         instructions(self.folder, who, recipe.name, &size.words()) / size.records as f64
     }
 
-    fn counts(&self, slower: &mut Bar, faster: &mut Bar) -> String {
+    fn counts(&self, reached: &mut Reached) -> String {
         let cost = ["ours, instructions a record", "ours, a base a call", "plain", "the Rust"];
         let mut table = Table::new(&[&["input"][..], &cost, &RATIOS].concat());
         for recipe in RECIPES {
             let [ours, single, plain, rust] = Who::ALL.map(|who| self.count(who, recipe, 1));
-            let ratios = [ours / plain, rust / ours];
-            for (bar, ratio) in [&mut *slower, &mut *faster].into_iter().zip(ratios) {
-                bar.reached.iter_mut().filter(|r| r.input == recipe.name).for_each(|r| r.instructions = Some(ratio));
-            }
+            let ratios = [ours / plain, single / plain, rust / ours];
+            reached.add(ratios, recipe.name, Instructions);
             let cells = [ours, single, plain, rust].map(|n| format!("{n:.1}"));
             let ratios = ratios.map(|r| format!("{r:.2}"));
             table.line([recipe.name.to_string()].into_iter().chain(cells).chain(ratios));
@@ -127,7 +159,7 @@ impl Plan<'_> {
         let head = ["input", "records", "ours, instructions a record", "plain", "ours, ns a record", "plain"];
         let mut table = Table::new(&head);
         let both = [Who::Ours, Who::Plain];
-        for recipe in RECIPES.into_iter().filter(Recipe::is_barred) {
+        for recipe in RECIPES.into_iter().filter(Recipe::is_filed) {
             for times in [1, 2, 4] {
                 let bench = Bench::new(recipe.make(self.size.times(times)));
                 let counts = both.map(|who| format!("{:.1}", self.count(who, recipe, times)));
@@ -140,11 +172,11 @@ impl Plan<'_> {
     }
 
     /// The table of the commands, and their lines.
-    fn files(&self, bar: &mut Bar) -> (String, String) {
+    fn files(&self, reached: &mut Reached) -> (String, String) {
         let head = ["input", "command", "seconds", "times the first", "processor seconds", "times the first"];
         let mut table = Table::new(&head);
         let mut lines = Vec::new();
-        for recipe in RECIPES.into_iter().filter(Recipe::is_barred) {
+        for recipe in RECIPES.into_iter().filter(Recipe::is_filed) {
             let folder = format!("{}/{}", self.folder, recipe.name);
             recipe.make(self.size).write(Path::new(&folder)).expect("the input's files can be written");
             let tools = tools(&folder, recipe.streams);
@@ -157,7 +189,7 @@ impl Plan<'_> {
                 let cells = [walls[k].told(2), format!("{ratio:.2}"), used[k].told(2), format!("{worked:.2}")];
                 table.line([recipe.name.to_string(), tool.name.to_string()].into_iter().chain(cells));
                 if tool.name.starts_with("bedtools") {
-                    bar.reached.push(Reached { input: recipe.name, time: ratio, instructions: None });
+                    reached.0.push((FILES, recipe.name, Time, ratio));
                 }
             }
             lines = tools.iter().map(|t| format!("    {}", t.line.replace(&format!("{folder}/"), ""))).collect();

@@ -39,6 +39,7 @@ mod listing {
 mod inplace {
     use crate::Base;
     use std::mem::offset_of;
+    use std::slice::from_ref;
 
     /// How a run stands, in numbers.
     #[repr(C)]
@@ -103,27 +104,34 @@ mod inplace {
     /// A record of an answer: stream and row.
     pub type Found = [u64; 2];
 
-    /// What a base gets, in numbers: what an answer does not name is 0.
+    /// What was offered: `any` is 1 where a place is. All is 0 where none is.
     #[repr(C)]
     #[derive(Clone, Copy, Debug, PartialEq, Eq)]
-    pub struct Told {
-        pub refusal: u64,
-        pub count: usize,
-        pub stream: u64,
-        pub row: u64,
-        pub offered: u64,
+    pub struct Offered {
+        pub any: u64,
         pub chrom: u64,
         pub stop: u64,
     }
 
-    /// What bases came to that were given together: how many were answered, how many records these have together, and what
-    /// the next one got, where it was given and got no records; else that is all 0.
+    /// What a base got that got no records: the refusal, and of 7 and 8 stream and row. What is not named is 0, and all is where
+    /// nothing stopped the bases.
+    #[repr(C)]
+    #[derive(Clone, Copy, Debug, PartialEq, Eq)]
+    pub struct Stopped {
+        pub refusal: u64,
+        pub stream: u64,
+        pub row: u64,
+    }
+
+    /// What bases came to that were given one after the other: how many were answered, how many records these have together,
+    /// what was offered after the last of them, and what stopped them, where the next one was given and got no records.
     #[repr(C)]
     #[derive(Clone, Copy, Debug, PartialEq, Eq)]
     pub struct Swept {
         pub bases: usize,
         pub records: usize,
-        pub last: Told,
+        pub offer: Offered,
+        pub last: Stopped,
     }
 
     /// How a reading ended: the refusal's number or 0, and the rows ahead of the end.
@@ -147,8 +155,9 @@ mod inplace {
     laid!(Mark, 32: kind at 0, first at 8, second at 16, third at 24);
     laid!(Run, 592: chrom at 0, start at 64, stop at 128, row at 192, ended at 256, next at 320, from at 384, to at 448,
         settings at 512, head at 536, len at 544, place at 552, mark at 560);
-    laid!(Told, 56: refusal at 0, count at 8, stream at 16, row at 24, offered at 32, chrom at 40, stop at 48);
-    laid!(Swept, 72: bases at 0, records at 8, last at 16);
+    laid!(Offered, 24: any at 0, chrom at 8, stop at 16);
+    laid!(Stopped, 24: refusal at 0, stream at 8, row at 16);
+    laid!(Swept, 64: bases at 0, records at 8, offer at 16, last at 40);
     laid!(Tally, 16: refusal at 0, rows at 8);
     const _: () = assert!(size_of::<usize>() == 8 && size_of::<Slot>() == 32 && size_of::<Found>() == 16);
 
@@ -168,16 +177,6 @@ mod inplace {
             stop: *const u64, stop_len: usize,
         ) -> u64;
         fn cedarlash_give(
-            run: *mut Run,
-            bchrom: u64, bstart: u64, bstop: u64,
-            chrom: *const u64, chrom_len: usize,
-            start: *const u64, start_len: usize,
-            stop: *const u64, stop_len: usize,
-            lengths: *const u64, lengths_len: usize,
-            queue: *mut Slot, queue_len: usize,
-            answers: *mut Found, answers_len: usize,
-        ) -> Told;
-        fn cedarlash_give_all(
             run: *mut Run,
             bchrom: *const u64, bchrom_len: usize,
             bstart: *const u64, bstart_len: usize,
@@ -302,37 +301,12 @@ mod inplace {
             }
         }
 
-        /// Gives a base to the run. Its records stand at the front of `answers` afterwards.
-        #[rustfmt::skip]
-        pub fn give(
-            run: &mut Run,
-            base: Base,
-            cols: Cols,
-            lengths: &[u64],
-            queue: &mut [Slot],
-            answers: &mut [Found],
-        ) -> Told {
-            // SAFETY: as said at the head of this file; `run`, the queue's slots and the answer rows are borrowed mutably,
-            // so they share no byte with each other or with what is read. Every content of `run` is a run to the archive.
-            unsafe {
-                cedarlash_give(
-                    run,
-                    base.chrom, base.start, base.stop,
-                    cols.chrom.as_ptr(), cols.chrom.len(),
-                    cols.start.as_ptr(), cols.start.len(),
-                    cols.stop.as_ptr(), cols.stop.len(),
-                    lengths.as_ptr(), lengths.len(),
-                    queue.as_mut_ptr(), queue.len(),
-                    answers.as_mut_ptr(), answers.len(),
-                )
-            }
-        }
-
-        /// Gives bases to the run, one after the other, until one gets no records or fewer answer rows are left than the
+        /// Gives bases to the run, one or many, one after the other, until one gets no records or fewer answer rows are left than the
         /// room. The records stand at the front of `answers` afterwards, those of one base behind those of the base ahead,
         /// and the counts at the front of `counts`, which has a place for each base.
+        #[inline(always)]
         #[rustfmt::skip]
-        pub fn give_all(
+        pub fn give(
             run: &mut Run,
             bases: Cols,
             cols: Cols,
@@ -341,9 +315,10 @@ mod inplace {
             answers: &mut [Found],
             counts: &mut [usize],
         ) -> Swept {
-            // SAFETY: as for `give`; `counts` is borrowed mutably, too.
+            // SAFETY: as said at the head of this file; `run`, the queue's slots, the answer rows and the counts are borrowed
+            // mutably, so they share no byte with each other or with what is read. Every content of `run` is a run to the archive.
             unsafe {
-                cedarlash_give_all(
+                cedarlash_give(
                     run,
                     bases.chrom.as_ptr(), bases.chrom.len(),
                     bases.start.as_ptr(), bases.start.len(),
@@ -360,7 +335,12 @@ mod inplace {
         }
     }
 
-    impl Cols<'_> {
+    impl<'a> Cols<'a> {
+        /// A base as columns of one row.
+        pub fn of_one(base: &'a Base) -> Self {
+            Cols { chrom: from_ref(&base.chrom), start: from_ref(&base.start), stop: from_ref(&base.stop) }
+        }
+
         /// Stops unless the three are of one length.
         fn assert_even(self) {
             assert!(
@@ -378,21 +358,8 @@ mod inplace {
     }
 
     /// [`any::give`] where all lengths fit.
+    #[inline(always)]
     pub fn give(
-        run: &mut Run,
-        base: Base,
-        cols: Cols,
-        lengths: &[u64],
-        queue: &mut [Slot],
-        answers: &mut [Found],
-    ) -> Told {
-        cols.assert_even();
-        assert!(answers.len() >= queue.len(), "answer rows as many as the room");
-        any::give(run, base, cols, lengths, queue, answers)
-    }
-
-    /// [`any::give_all`] where all lengths fit.
-    pub fn give_all(
         run: &mut Run,
         bases: Cols,
         cols: Cols,
@@ -405,6 +372,6 @@ mod inplace {
         assert!(counts.len() >= bases.chrom.len(), "a count for each base");
         cols.assert_even();
         assert!(answers.len() >= queue.len(), "answer rows as many as the room");
-        any::give_all(run, bases, cols, lengths, queue, answers, counts)
+        any::give(run, bases, cols, lengths, queue, answers, counts)
     }
 }

@@ -2,7 +2,7 @@
 
 use crate::columns::{Base, Columns, Rows};
 use crate::genome::Genome;
-use crate::raw::{self, Cols, Found, Run, Slot, Told};
+use crate::raw::{self, Cols, Found, Offered, Run, Slot, Stopped};
 use crate::refusal::{words, Refusal};
 use std::convert::Infallible;
 
@@ -100,8 +100,13 @@ impl Answer<Records<'_>> {
     }
 }
 
-/// What a base got that got no records; nothing if it got some.
-fn unfound<R>(told: Told) -> Option<Answer<R>> {
+/// The offered place, if there is one.
+fn place(offer: Offered) -> Option<Place> {
+    (offer.any != 0).then_some(Place { chrom: offer.chrom, stop: offer.stop })
+}
+
+/// What a base got that got no records; nothing if none was stopped.
+fn unfound<R>(told: Stopped) -> Option<Answer<R>> {
     match told.refusal {
         0 => None,
         number @ (7 | 8) => {
@@ -145,21 +150,23 @@ impl<'a> Sweep<'a> {
     /// Gives a base. Bases come by chromosome, start and stop.
     pub fn give(&mut self, base: Base) -> Answer<Records<'_>> {
         let (cols, lengths) = (self.columns.lent(), self.genome.lengths());
-        let told = raw::give(&mut self.run, base, cols, lengths, &mut self.queue, &mut self.answers);
-        unfound(told).unwrap_or_else(|| Answer::Found {
-            records: Records(&self.answers[..told.count]),
-            offer: (told.offered != 0).then_some(Place { chrom: told.chrom, stop: told.stop }),
+        let (queue, answers, one) = (&mut self.queue, &mut self.answers, Cols::of_one(&base));
+        let swept = raw::give(&mut self.run, one, cols, lengths, queue, answers, &mut [0]);
+        unfound(swept.last).unwrap_or_else(|| Answer::Found {
+            records: Records(&self.answers[..swept.records]),
+            offer: place(swept.offer),
         })
     }
 
     /// Gives the bases of `bases` from row `from` on, one after the other, each as [`Sweep::give`] would but faster: at most
     /// 256 of them, until one gets no records (it is refused, or the run ends) or the answer rows might not do for the next.
-    /// At least one is given if there is one. No offers are told: where bases are to be left out, they are given one by one.
+    /// At least one is given if there is one. Offers between them are not told: where bases are to be left out, they are given one
+    /// by one.
     pub fn give_all<'b>(&'b mut self, bases: &'b Rows, from: usize) -> Batch<'b> {
         let (cols, lengths) = (self.columns.lent(), self.genome.lengths());
         let bases = bases.some(from, self.counts.len());
         let (queue, answers, counts) = (&mut self.queue, &mut self.answers, &mut self.counts);
-        let swept = raw::give_all(&mut self.run, bases, cols, lengths, queue, answers, counts);
+        let swept = raw::give(&mut self.run, bases, cols, lengths, queue, answers, counts);
         Batch {
             from,
             bases,

@@ -3,42 +3,27 @@ use mathlib.Core.Path.{_≡_, refl, sym, ap, subst, _∙_}
 use mathlib.Core.List.{List}
 use Prim.Native.Nat.{ℕ}
 use lib.ListN.{length}
-use Rattle.rules.specs.declared.Base.{Base}
-use Rattle.rules.specs.declared.Answer.{Answer}
 use Rattle.rules.specs.declared.Settings.{Settings}
 use Rattle.heads.specs.View.{Cols}
 use Rattle.runs.specs.declared.Run.{Run}
-use Rattle.runs.specs.declared.Given.{Given}
 use Rattle.runs.specs.declared.start.Started.{Started}
 use Rattle.pulls.specs.Pulls.{Lent}
 use Rattle.runs.specs.Start.{plan, startOf}
-use Rattle.step.specs.Give.{Gives}
 use Rattle.many.specs.declared.Passed.{Passed}
 use Rattle.many.specs.Many.{GivesAll}
 use Rattle.fields.specs.declared.Reading.{Reading}
 use Rattle.fields.specs.Table.{Found, Fills}
-use Rattle.inplace.specs.declared.told.Told.{Told}
+use Rattle.inplace.specs.declared.told.Offered.{Offered}
+use Rattle.inplace.specs.declared.told.Stopped.{Stopped}
 use Rattle.inplace.specs.declared.readers.Tally.{Tally}
-use Rattle.inplace.specs.Told.{toldOf}
-use Rattle.inplace.specs.Calls.{eightOf, streamsIn, planOf, begunNumber, BeginsInPlace, GivesInPlace, GivesAllInPlace}
+use Rattle.inplace.specs.Told.{offeredOf, stoppedOf}
+use Rattle.inplace.specs.Calls.{eightOf, streamsIn, planOf, begunNumber, BeginsInPlace, GivesInPlace}
 use Rattle.inplace.specs.Tally.{tallyOf, Tallies}
 
-same-given : (g : Given) {a : Answer} → g .answer ≡ a → g ≡ record { run = g .run; answer = a }
-same-given g ea = rw (sym ea)
-
--- a base given to the run that is kept, and its answer told
-pub gives-so : {s : Cols} {lengths : List ℕ} {r : Run} {b : Base} {l l′ : Lent} {g : Given} {t : Told}
-    → Gives s lengths r b l g l′ → t ≡ toldOf (g .answer) → GivesInPlace s lengths r b l t (g .run) l′
-gives-so {s} {lengths} {r} {b} {l} {l′} {g} {t} e et =
-    record {
-      told = et ∙ ap toldOf (e .settles .answer);
-      gives = subst (λ (u : Given). Gives s lengths r b l u l′) (same-given g (e .settles .answer)) e;
-    }
-
--- bases given to the run that is kept, and what the last one got told
-pub gives-all-so : {s : Cols} {lengths : List ℕ} {t : Cols} {r : Run} {l l′ : Lent} {ns ns′ : List ℕ} {p : Passed} {x : Told}
-    → GivesAll s lengths t r l ns p l′ ns′ → x ≡ toldOf (p .last) → GivesAllInPlace s lengths t r l ns (record { bases = p .bases; records = p .records; last = x }) (p .run) l′ ns′
-gives-all-so {p} e ex = record { answer = p .last; offer = p .offer; told = ex; gives = e }
+-- bases given to the run that is kept, and what they came to told
+pub gives-so : {s : Cols} {lengths : List ℕ} {t : Cols} {r : Run} {l l′ : Lent} {ns ns′ : List ℕ} {p : Passed} {o : Offered} {x : Stopped}
+    → GivesAll s lengths t r l ns p l′ ns′ → o ≡ offeredOf (p .offer) → x ≡ stoppedOf (p .last) → GivesInPlace s lengths t r l ns (record { bases = p .bases; records = p .records; offer = o; last = x }) (p .run) l′ ns′
+gives-so {p = p} e i j = record { passed = p; told = rw (i, j); run = refl; gives = e }
 
 -- a run begun with ranges in two columns, and its answer told
 pub begins-so : (x : Settings) (from to : List ℕ) (text names-from names-to : List ℕ) (s : Cols) {n : ℕ} {begins ends : List ℕ} {t : Started} {k : ℕ}

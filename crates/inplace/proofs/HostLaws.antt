@@ -1,18 +1,20 @@
--- What a host may rely on: the numbers are 01's, memory of zeros is a run that refuses every base, a refused base leaves the run and all that was
+-- What a host may rely on: the numbers are 01's, memory of zeros is a run that refuses every base, columns of one base are the call that gives it, a
+-- refused base leaves the run and all that was
 -- lent as they were, any two results agree, bases in columns that differ in length are not given, and ranges that are not one for each stream are refused.
-use mathlib.Core.Path.{_≡_, refl, sym, ap, _∙_}
+use mathlib.Core.Path.{_≡_, refl, sym, ap, subst, _∙_}
 use mathlib.Core.Bool.{Bool, true, false, cond, _&&_}
 use mathlib.Core.Option.{some}
 use mathlib.Core.List.{List}
 use Prim.Native.Nat.{ℕ, _<_}
 use native.Mathlib.Omega.{arith}
-use borrow.Author.Tests.{le-leb, lt-leb, eqb-true}
+use borrow.Author.Tests.{le-leb, lt-leb, eqb-true, eq-eqb}
 use lib.Dec.{eqb}
 use lib.ListN.{length}
+use Rattle.basics.proofs.BoolLaws.{clash}
 use Rattle.rules.specs.declared.Base.{Base}
 use Rattle.rules.specs.declared.Answer.{Answer}
 use Rattle.rules.specs.declared.Answer.the-variants.{Found, Refused, Ended}
-use Rattle.rules.specs.declared.Offer.the-variants.{Nothing, Upto}
+use Rattle.rules.specs.declared.Offer.the-variants.{Nothing}
 use Rattle.rules.specs.declared.Refusal.{Refusal}
 use Rattle.rules.specs.declared.Refusal.the-variants.{Sizes}
 use Rattle.rules.specs.declared.Settings.{Settings}
@@ -32,21 +34,20 @@ use Rattle.runs.specs.View.{headsOf, ringOf, stageOf, runOf, eight}
 use Rattle.runs.specs.Start.{Plan, namesOf, lendable, refusedOf, begunBy, startOf}
 use Rattle.runs.specs.Comes.{lensOf, rightOf, givenOf}
 use Rattle.step.specs.Settle.{runBy}
-use Rattle.step.specs.Give.{openedBy}
+use Rattle.step.specs.Give.{openedBy, Gives}
 use Rattle.many.specs.declared.Passed.{Passed}
-use Rattle.many.specs.Many.{Even, unevenBy}
+use Rattle.many.specs.Many.{baseAt, Unfound, Even, unevenBy}
 use Rattle.demands.proofs.OneResult.{Alike, one-result}
+use Rattle.sweep.proofs.Single.{single-found, single-last, single-other, single-none}
 use Rattle.inplace.specs.declared.Swept.{Swept}
-use Rattle.inplace.specs.declared.told.Told.{Told}
-use Rattle.inplace.specs.Told.{toldOf}
-use Rattle.inplace.specs.Calls.{streamsIn, planOf, answered, BeginsInPlace, GivesInPlace, GivesAllInPlace}
+use Rattle.inplace.specs.Told.{offeredOf, stoppedOf, sweptOf, aloneOf}
+use Rattle.inplace.specs.Calls.{streamsIn, planOf, BeginsInPlace, GivesInPlace, answered, GivesAlone}
 
 -- ---- numbers
 
 -- the number that is told is 01's
-pub told-number : (a : Answer) → toldOf a .refusal ≡ numberOf a
-told-number (Found n Nothing) = refl
-told-number (Found n (Upto p)) = refl
+pub told-number : (a : Answer) → stoppedOf a .refusal ≡ numberOf a
+told-number (Found n o) = refl
 told-number (Refused x) = refl
 told-number (Ended e) = refl
 
@@ -65,12 +66,43 @@ module _ (s : Cols) (lengths : List ℕ) (l : Lent) where
   unfolding give
   zeros-refused b = rw zeros-wrong
 
+-- ---- a base given alone
+
+found-alone : (p : Passed) {a : Answer} → p .bases ≡ 1 → p .last ≡ Found 0 Nothing → Found (p .records) (p .offer) ≡ a → sweptOf p ≡ aloneOf a
+found-alone p i j e = rw (← e, i, j)
+
+other-alone : (p : Passed) {a : Answer} → (p .bases ≡ 0) × ((p .records ≡ 0) × ((p .offer ≡ Nothing) × Unfound (p .last))) → p .last ≡ a → sweptOf p ≡ aloneOf a
+other-alone p {a} (i, (j, (k, u))) e = rw (i, j, k, e) (go a (subst Unfound e u))
+  where
+    go : (a : Answer) → Unfound a → _≡_ {A = Swept} (record { bases = 0; records = 0; offer = offeredOf Nothing; last = stoppedOf a }) (aloneOf a)
+    go (Found n o) z = absurd z
+    go (Refused x) z = refl
+    go (Ended f) z = refl
+
+-- columns of one base are the call that gives it: its answer in numbers, and the sweep's own promise of the run behind the reference before and after
+module _ {s : Cols} {lengths : List ℕ} {t : Cols} {r : Run} {l : Lent} {ns : List ℕ} {a : Swept} {r′ : Run} {l′ : Lent} {ns′ : List ℕ} (n : length (t .chrom) ≡ 1) (even : Even t ns) (g : GivesInPlace s lengths t r l ns a r′ l′ ns′) where
+  as-given : {x : Answer} → Gives s lengths r (baseAt t 0) l (record { run = g .passed .run; answer = x }) l′ → Gives s lengths r (baseAt t 0) l (record { run = r′; answer = answered s lengths r (baseAt t 0) l }) l′
+  as-given {x} y = rw (g .run) (subst (λ (z : Answer). Gives s lengths r (baseAt t 0) l (record { run = g .passed .run; answer = z }) l′) (y .settles .answer) y)
+
+  pub given-alone : GivesAlone s lengths r (baseAt t 0) l a r′ l′
+  given-alone = go (eqb (g .passed .bases) 1) refl
+    where
+      go : (c : Bool) → eqb (g .passed .bases) 1 ≡ c → GivesAlone s lengths r (baseAt t 0) l a r′ l′
+      go true e =
+          let i = eqb-true (g .passed .bases) 1 e in
+          let y = single-found n even (g .gives) i in
+          record { told = g .told ∙ found-alone (g .passed) i (single-last n even (g .gives) i) (y .settles .answer); gives = as-given y }
+      go false e =
+          let i : g .passed .bases ≡ 1 → ⊥ = λ o. clash (eq-eqb (g .passed .bases) 1 o) e in
+          let y = single-other n even (g .gives) i in
+          record { told = g .told ∙ other-alone (g .passed) (single-none n even (g .gives) i) (y .settles .answer); gives = as-given y }
+
 -- ---- "run unchanged"
 
 by-refused : (t : Reply) (x : Refusal) (b : Base) (h : Heads) (r : Run) (q : Ring) → t ≡ refused x → runBy t b h r q ≡ r
 by-refused t x b h r q e = rw e
 
-module _ (s : Cols) (lengths : List ℕ) (r : Run) (b : Base) (l : Lent) (t : Told) (r′ : Run) (l′ : Lent) (g : GivesInPlace s lengths r b l t r′ l′) where
+module _ (s : Cols) (lengths : List ℕ) (r : Run) (b : Base) (l : Lent) (a : Swept) (r′ : Run) (l′ : Lent) (g : GivesAlone s lengths r b l a r′ l′) where
   -- a refused base leaves the run as it was, every number of it, and all that was lent
   pub unchanged : (x : Refusal) → givenOf s lengths r b l .reply ≡ refused x → (r′ ≡ r) × (l′ ≡ l)
   unchanged x e = (
@@ -80,28 +112,23 @@ module _ (s : Cols) (lengths : List ℕ) (r : Run) (b : Base) (l : Lent) (t : To
 
   -- ---- "any two results allowed by a statement are equal"
 
-  pub one-told : (u : Told) (k : Run) (m : Lent) → GivesInPlace s lengths r b l u k m → t ≡ u
+  pub one-told : (u : Swept) (k : Run) (m : Lent) → GivesAlone s lengths r b l u k m → a ≡ u
   one-told u k m f = g .told ∙ sym (f .told)
 
   -- the run and what was lent, as far as the call by value says them
-  pub one-run : (u : Told) (k : Run) (m : Lent) → GivesInPlace s lengths r b l u k m
+  pub one-run : (u : Swept) (k : Run) (m : Lent) → GivesAlone s lengths r b l u k m
       → Alike (givenOf s lengths r b l .reply) (record { run = r′; answer = answered s lengths r b l }) l′ (record { run = k; answer = answered s lengths r b l }) m
   one-run u k m f = one-result s lengths r b l (record { run = r′; answer = answered s lengths r b l }) l′ (record { run = k; answer = answered s lengths r b l }) m (g .gives) (f .gives)
 
 -- ---- bases in columns that differ in length
 
 -- none of them was given: the run, all that was lent and the counts stay, and what is told is 1, or the end again of a run that has ended
-module _ (s : Cols) (lengths : List ℕ) (t : Cols) (r : Run) (l : Lent) (ns : List ℕ) (a : Swept) (r′ : Run) (l′ : Lent) (ns′ : List ℕ) (g : GivesAllInPlace s lengths t r l ns a r′ l′ ns′) (d : Even t ns → ⊥) where
+module _ (s : Cols) (lengths : List ℕ) (t : Cols) (r : Run) (l : Lent) (ns : List ℕ) (a : Swept) (r′ : Run) (l′ : Lent) (ns′ : List ℕ) (g : GivesInPlace s lengths t r l ns a r′ l′ ns′) (d : Even t ns → ⊥) where
   pub uneven-unchanged : (r′ ≡ r) × ((l′ ≡ l) × (ns′ ≡ ns))
-  uneven-unchanged = (ap (λ (p : Passed). p .run) (g .gives .uneven d .passed), (g .gives .uneven d .lent, g .gives .uneven d .counts))
+  uneven-unchanged = (g .run ∙ ap (λ (p : Passed). p .run) (g .gives .uneven d .passed), (g .gives .uneven d .lent, g .gives .uneven d .counts))
 
-  pub uneven-told : a ≡ record { bases = 0; records = 0; last = toldOf (unevenBy (stageOf r)) }
-  uneven-told =
-      let e = g .gives .uneven d .passed in
-      let none : a .bases ≡ 0 = ap (λ (p : Passed). p .bases) e in
-      let no-records : a .records ≡ 0 = ap (λ (p : Passed). p .records) e in
-      let last : a .last ≡ toldOf (unevenBy (stageOf r)) = g .told ∙ ap (λ (p : Passed). toldOf (p .last)) e in
-      rw (none, no-records, last)
+  pub uneven-told : a ≡ record { bases = 0; records = 0; offer = offeredOf Nothing; last = stoppedOf (unevenBy (stageOf r)) }
+  uneven-told = g .told ∙ ap sweptOf (g .gives .uneven d .passed)
 
 -- ---- a start: "any two results allowed by a statement are equal"
 

@@ -7,7 +7,6 @@ use lib.Dec.{eqb}
 use lib.ListN.{length, getD}
 use Rattle.rules.specs.declared.Base.{Base}
 use Rattle.rules.specs.declared.Answer.{Answer}
-use Rattle.rules.specs.declared.Offer.{Offer}
 use Rattle.rules.specs.declared.Settings.{Settings}
 use Rattle.rules.specs.Numbers.{unbegunNumber}
 use Rattle.rules.specs.Call.{answerOf}
@@ -19,10 +18,10 @@ use Rattle.runs.specs.declared.start.Begins.the-variants.{Begun, Refused}
 use Rattle.runs.specs.Start.{Plan, plan, startOf}
 use Rattle.runs.specs.Comes.{givenOf}
 use Rattle.step.specs.Give.{Gives}
+use Rattle.many.specs.declared.Passed.{Passed}
 use Rattle.many.specs.Many.{GivesAll}
 use Rattle.inplace.specs.declared.Swept.{Swept}
-use Rattle.inplace.specs.declared.told.Told.{Told}
-use Rattle.inplace.specs.Told.{toldOf}
+use Rattle.inplace.specs.Told.{sweptOf, aloneOf}
 
 -- ---- a run begins
 
@@ -49,25 +48,22 @@ pub record BeginsInPlace (p : Plan) (n : ℕ) (r′ : Run) : Type 0 where
   pub number : n ≡ begunNumber (startOf p .begins)
   pub run : r′ ≡ startOf p .run
 
--- ---- a base is given
+-- ---- bases are given one after the other
 
-abbrev pub baseOf : ℕ → ℕ → ℕ → Base
-baseOf chrom start stop = record { chrom = record { 0 = chrom }; start = start; stop = stop }
+-- as the call by value says of the run that is kept before and after: what the bases came to in numbers, the run and all that was lent
+pub record GivesInPlace (s : Cols) (lengths : List ℕ) (t : Cols) (r : Run) (l : Lent) (ns : List ℕ) (a : Swept) (r′ : Run) (l′ : Lent) (ns′ : List ℕ) : Type 0 where
+  pub passed : Passed
+  pub told : a ≡ sweptOf passed
+  pub run : r′ ≡ passed .run
+  pub gives : GivesAll s lengths t r l ns passed l′ ns′
+
+-- ---- a base is given alone
 
 -- what the base b gets of the run that is kept
 abbrev pub answered : Cols → List ℕ → Run → Base → Lent → Answer
 answered s lengths r b l = answerOf (givenOf s lengths r b l .reply)
 
--- as the call by value says of the run that is kept before and after: the answer in numbers, the run and all that was lent
-pub record GivesInPlace (s : Cols) (lengths : List ℕ) (r : Run) (b : Base) (l : Lent) (t : Told) (r′ : Run) (l′ : Lent) : Type 0 where
-  pub told : t ≡ toldOf (answered s lengths r b l)
+-- "one call that gives a base": its answer in numbers, and the sweep's own promise of the run before and after
+pub record GivesAlone (s : Cols) (lengths : List ℕ) (r : Run) (b : Base) (l : Lent) (a : Swept) (r′ : Run) (l′ : Lent) : Type 0 where
+  pub told : a ≡ aloneOf (answered s lengths r b l)
   pub gives : Gives s lengths r b l (record { run = r′; answer = answered s lengths r b l }) l′
-
--- ---- bases are given one after the other
-
--- as the call by value says of the run that is kept before and after; what was offered last is not told
-pub record GivesAllInPlace (s : Cols) (lengths : List ℕ) (t : Cols) (r : Run) (l : Lent) (ns : List ℕ) (a : Swept) (r′ : Run) (l′ : Lent) (ns′ : List ℕ) : Type 0 where
-  pub answer : Answer
-  pub offer : Offer
-  pub told : a .last ≡ toldOf answer
-  pub gives : GivesAll s lengths t r l ns (record { run = r′; bases = a .bases; records = a .records; offer = offer; last = answer }) l′ ns′

@@ -8,23 +8,36 @@ use Rattle.rules.specs.declared.End.{End}
 use Rattle.rules.specs.declared.Answer.{Answer}
 use Rattle.rules.specs.declared.Answer.the-variants.{Found, Refused, Ended}
 use Rattle.rules.specs.Numbers.{refusalNumber, endNumber, endValues}
-use Rattle.inplace.specs.declared.told.Told.{Told}
+use Rattle.many.specs.declared.Passed.{Passed}
+use Rattle.inplace.specs.declared.Swept.{Swept}
+use Rattle.inplace.specs.declared.told.Offered.{Offered}
+use Rattle.inplace.specs.declared.told.Stopped.{Stopped}
 
--- "On success": the count of the records, and the offered place, if one is
-abbrev pub foundTold : ℕ → Offer → Told
-foundTold n Nothing = record { refusal = 0; count = n; stream = 0; row = 0; offered = 0; chrom = 0; stop = 0 }
-foundTold n (Upto p) = record { refusal = 0; count = n; stream = 0; row = 0; offered = 1; chrom = p .chrom .0; stop = p .stop }
+-- the offered place, if one is
+abbrev pub offeredOf : Offer → Offered
+offeredOf Nothing = record { any = 0; chrom = 0; stop = 0 }
+offeredOf (Upto p) = record { any = 1; chrom = p .chrom .0; stop = p .stop }
 
--- a refusal's number and values: it offers nothing
-abbrev pub refusedTold : ℕ → ℕ → ℕ → Told
-refusedTold number stream row = record { refusal = number; count = 0; stream = stream; row = row; offered = 0; chrom = 0; stop = 0 }
+-- a refusal's number and values
+abbrev pub stopsBy : ℕ → ℕ → ℕ → Stopped
+stopsBy number stream row = record { refusal = number; stream = stream; row = row }
 
 -- "Numbers 7 and 8 name stream and row"
-abbrev pub endTold : End → Told
-endTold e = refusedTold (endNumber e) (getD (endValues e) 0 0) (getD (endValues e) 1 0)
+abbrev pub endStops : End → Stopped
+endStops e = stopsBy (endNumber e) (getD (endValues e) 0 0) (getD (endValues e) 1 0)
 
--- what a host is told of an answer
-abbrev pub toldOf : Answer → Told
-toldOf (Found n o) = foundTold n o
-toldOf (Refused x) = refusedTold (refusalNumber x) 0 0
-toldOf (Ended e) = endTold e
+-- what stopped the bases, if anything did
+abbrev pub stoppedOf : Answer → Stopped
+stoppedOf (Found n o) = stopsBy 0 0 0
+stoppedOf (Refused x) = stopsBy (refusalNumber x) 0 0
+stoppedOf (Ended e) = endStops e
+
+-- what a host is told of bases that were given
+abbrev pub sweptOf : Passed → Swept
+sweptOf p = record { bases = p .bases; records = p .records; offer = offeredOf (p .offer); last = stoppedOf (p .last) }
+
+-- what a host is told of a base that was given alone, of its answer
+abbrev pub aloneOf : Answer → Swept
+aloneOf (Found n o) = record { bases = 1; records = n; offer = offeredOf o; last = stopsBy 0 0 0 }
+aloneOf (Refused x) = record { bases = 0; records = 0; offer = offeredOf Nothing; last = stoppedOf (Refused x) }
+aloneOf (Ended e) = record { bases = 0; records = 0; offer = offeredOf Nothing; last = stoppedOf (Ended e) }

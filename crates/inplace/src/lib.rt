@@ -3,39 +3,33 @@ mod readers;
 mod told;
 
 pub use readers::Tally;
-use rules::Base;
-use rules::Chrom;
 pub use rules::Settings;
 use rules::Unbegun;
 use runs::Begins;
 pub use runs::Mark;
 pub use runs::Run;
-pub use told::Told;
+pub use told::Offered;
+pub use told::Stopped;
 ghost use mathlib.Core.Path.{_≡_};
 ghost use lib.ListN.{getD};
 ghost use Rattle.heads.specs.View.{cols};
 ghost use Rattle.pulls.specs.Pulls.{lent};
-ghost use Rattle.inplace.specs.Calls.{eightOf, streamsIn, planOf, begunNumber, baseOf, BeginsInPlace, GivesInPlace, GivesAllInPlace};
+ghost use Rattle.inplace.specs.Calls.{eightOf, streamsIn, planOf, begunNumber, BeginsInPlace, GivesInPlace};
 
-// What bases came to that were given one after the other: how many were answered, how many records these have together, and what the next one got,
-// where it was given and got no records; else that is all 0.
+// What bases came to that were given one after the other: how many were answered, how many records these have together, what was offered after the last
+// of them, and what stopped them, where the next one was given and got no records.
 #[repr(C)]
 pub struct Swept {
     pub bases: usize,
     pub records: usize,
-    pub last: Told,
+    pub offer: Offered,
+    pub last: Stopped,
 }
 
 // A run that was begun, and the refusal's number or 0.
 struct Begun {
     run: Run,
     number: u64,
-}
-
-// A run after a base, and what the base got.
-struct Stepped {
-    run: Run,
-    told: Told,
 }
 
 // A run after bases, and what these came to.
@@ -135,40 +129,8 @@ fn begin_run(
     }
 }
 
-// Gives a base to a run by value.
-fn give_one(
-    run: Run,
-    bchrom: u64,
-    bstart: u64,
-    bstop: u64,
-    chrom: &[u64],
-    start: &[u64],
-    stop: &[u64],
-    lengths: &[u64],
-    queue: &mut [[u64; 4]],
-    answers: &mut [[u64; 2]],
-) -> Stepped
-    ensures { λ s. ⌜ GivesInPlace (cols (now (chrom .entry)) (now (start .entry)) (now (stop .entry))) (now (lengths .entry)) run (baseOf bchrom bstart bstop)
-        (lent (now (queue .entry)) (now (answers .entry))) (s .told) (s .run) (lent (now (queue .exit)) (now (answers .exit))) ⌝ }
-{
-    let c = Chrom(bchrom);
-    let b = Base {
-        chrom: c,
-        start: bstart,
-        stop: bstop,
-    };
-    let g = sweep::give(run, b, chrom, start, stop, lengths, queue, answers);
-    let after = g.run;
-    let answer = g.answer;
-    let told = told::told_of(answer);
-    Stepped {
-        run: after,
-        told: told,
-    }
-}
-
 // Gives the bases of three columns to a run by value.
-fn give_many(
+fn give_bases(
     run: Run,
     bchrom: &[u64],
     bstart: &[u64],
@@ -181,7 +143,7 @@ fn give_many(
     answers: &mut [[u64; 2]],
     counts: &mut [usize],
 ) -> Carried
-    ensures { λ s. ⌜ GivesAllInPlace (cols (now (chrom .entry)) (now (start .entry)) (now (stop .entry))) (now (lengths .entry)) (cols (now (bchrom .entry)) (now (bstart .entry)) (now (bstop .entry))) run
+    ensures { λ s. ⌜ GivesInPlace (cols (now (chrom .entry)) (now (start .entry)) (now (stop .entry))) (now (lengths .entry)) (cols (now (bchrom .entry)) (now (bstart .entry)) (now (bstop .entry))) run
         (lent (now (queue .entry)) (now (answers .entry))) (now (counts .entry)) (s .swept) (s .run) (lent (now (queue .exit)) (now (answers .exit))) (now (counts .exit)) ⌝ }
 {
     let p = many::give_all(
@@ -197,14 +159,17 @@ fn give_many(
         answers,
         counts,
     );
-    let after = p.run;
-    let answer = p.last;
-    let told = told::told_of(answer);
+    let offer = p.offer;
+    let last = p.last;
+    let offered = told::offered_of(offer);
+    let stopped = told::stopped_of(last);
     let swept = Swept {
         bases: p.bases,
         records: p.records,
-        last: told,
+        offer: offered,
+        last: stopped,
     };
+    let after = p.run;
     Carried {
         run: after,
         swept: swept,
@@ -244,44 +209,11 @@ pub extern "C" fn cedarlash_begin(
     s.number
 }
 
-// Gives a base to the run in place. Lent are the streams' columns, the chromosomes' lengths, the queue's slots and the answer rows.
+// Gives the bases of three columns to the run in place, one base or many, one after the other, until one gets no records, or fewer answer rows are left
+// than records can wait. The records of each base stand in the answer rows behind those of the bases ahead of it, and its count stands in its place of
+// `counts`. Lent beside the bases are the streams' columns, the chromosomes' lengths, the queue's slots, the answer rows and the counts.
 #[no_mangle]
 pub extern "C" fn cedarlash_give(
-    run: &mut Run,
-    bchrom: u64,
-    bstart: u64,
-    bstop: u64,
-    chrom: &[u64],
-    start: &[u64],
-    stop: &[u64],
-    lengths: &[u64],
-    queue: &mut [[u64; 4]],
-    answers: &mut [[u64; 2]],
-) -> Told
-    ensures { λ t. ⌜ GivesInPlace (cols (now (chrom .entry)) (now (start .entry)) (now (stop .entry))) (now (lengths .entry)) (now (run .entry)) (baseOf bchrom bstart bstop)
-        (lent (now (queue .entry)) (now (answers .entry))) t (now (run .exit)) (lent (now (queue .exit)) (now (answers .exit))) ⌝ }
-{
-    let s = give_one(
-        *run,
-        bchrom,
-        bstart,
-        bstop,
-        chrom,
-        start,
-        stop,
-        lengths,
-        queue,
-        answers,
-    );
-    *run = s.run;
-    s.told
-}
-
-// Gives the bases of three columns to the run in place, one after the other, each as `cedarlash_give` would, until one gets no records, or fewer answer
-// rows are left than records can wait: many bases for the price of one call. The records of each base stand in the answer rows behind those of the bases
-// ahead of it, and its count stands in its place of `counts`.
-#[no_mangle]
-pub extern "C" fn cedarlash_give_all(
     run: &mut Run,
     bchrom: &[u64],
     bstart: &[u64],
@@ -294,10 +226,10 @@ pub extern "C" fn cedarlash_give_all(
     answers: &mut [[u64; 2]],
     counts: &mut [usize],
 ) -> Swept
-    ensures { λ a. ⌜ GivesAllInPlace (cols (now (chrom .entry)) (now (start .entry)) (now (stop .entry))) (now (lengths .entry)) (cols (now (bchrom .entry)) (now (bstart .entry)) (now (bstop .entry))) (now (run .entry))
+    ensures { λ a. ⌜ GivesInPlace (cols (now (chrom .entry)) (now (start .entry)) (now (stop .entry))) (now (lengths .entry)) (cols (now (bchrom .entry)) (now (bstart .entry)) (now (bstop .entry))) (now (run .entry))
         (lent (now (queue .entry)) (now (answers .entry))) (now (counts .entry)) a (now (run .exit)) (lent (now (queue .exit)) (now (answers .exit))) (now (counts .exit)) ⌝ }
 {
-    let s = give_many(
+    let s = give_bases(
         *run,
         bchrom,
         bstart,

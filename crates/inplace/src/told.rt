@@ -1,72 +1,40 @@
-// What a base got, in numbers.
+// What bases came to, in numbers: what was offered after them, and what stopped them.
 use rules::Answer;
 use rules::End;
 use rules::Offer;
 ghost use mathlib.Core.Path.{_≡_};
-ghost use Rattle.inplace.specs.Told.{refusedTold, toldOf, foundTold, endTold};
+ghost use Rattle.inplace.specs.Told.{offeredOf, stopsBy, endStops, stoppedOf};
 
-// What a base got, in numbers: the refusal or 0; the count of its records; of 7 and 8 stream and row; whether a place is offered (1),
-// and its chromosome and stop. What is not used is 0.
+// What was offered: `any` is 1 where a place is, with its chromosome and its stop. All is 0 where none is.
 #[repr(C)]
-pub struct Told {
-    pub refusal: u64,
-    pub count: usize,
-    pub stream: u64,
-    pub row: u64,
-    pub offered: u64,
+pub struct Offered {
+    pub any: u64,
     pub chrom: u64,
     pub stop: u64,
 }
 
-// What is told of a refusal by this number, and of the stream and row that it names.
-fn refused_told(number: u64, stream: u64, row: u64) -> Told
-    ensures { λ t. ⌜ t ≡ refusedTold number stream row ⌝ }
-{
-    Told {
-        refusal: number,
-        count: 0,
-        stream: stream,
-        row: row,
-        offered: 0,
-        chrom: 0,
-        stop: 0,
-    }
+// What a base got that got no records: the refusal, and of 7 and 8 stream and row. What is not named is 0, and all is where nothing stopped the bases.
+#[repr(C)]
+pub struct Stopped {
+    pub refusal: u64,
+    pub stream: u64,
+    pub row: u64,
 }
 
-// What is told of the end of a run.
-fn end_told(e: End) -> Told
-    ensures { λ t. ⌜ t ≡ endTold e ⌝ }
-{
-    match e {
-        End::Faulty(s, k) => refused_told(7, s.0, k),
-        End::Unsorted(s, k) => refused_told(8, s.0, k),
-        End::NoRoom => refused_told(9, 0, 0),
-        End::NoRows => refused_told(10, 0, 0),
-    }
-}
-
-// What is told of a base that got n records, and of the offer.
-fn found_told(n: usize, o: Offer) -> Told
-    ensures { λ t. ⌜ t ≡ foundTold n o ⌝ }
+// What is told of an offer.
+pub fn offered_of(o: Offer) -> Offered
+    ensures { λ t. ⌜ t ≡ offeredOf o ⌝ }
 {
     match o {
-        Offer::Nothing => Told {
-            refusal: 0,
-            count: n,
-            stream: 0,
-            row: 0,
-            offered: 0,
+        Offer::Nothing => Offered {
+            any: 0,
             chrom: 0,
             stop: 0,
         },
         Offer::Upto(p) => {
             let c = p.chrom;
-            Told {
-                refusal: 0,
-                count: n,
-                stream: 0,
-                row: 0,
-                offered: 1,
+            Offered {
+                any: 1,
                 chrom: c.0,
                 stop: p.stop,
             }
@@ -74,13 +42,36 @@ fn found_told(n: usize, o: Offer) -> Told
     }
 }
 
-// What is told of an answer.
-pub fn told_of(a: Answer) -> Told
-    ensures { λ t. ⌜ t ≡ toldOf a ⌝ }
+// A refusal by this number, with the stream and row that it names.
+fn stops_by(number: u64, stream: u64, row: u64) -> Stopped
+    ensures { λ t. ⌜ t ≡ stopsBy number stream row ⌝ }
+{
+    Stopped {
+        refusal: number,
+        stream: stream,
+        row: row,
+    }
+}
+
+// What is told of the end of a run.
+fn end_stops(e: End) -> Stopped
+    ensures { λ t. ⌜ t ≡ endStops e ⌝ }
+{
+    match e {
+        End::Faulty(s, k) => stops_by(7, s.0, k),
+        End::Unsorted(s, k) => stops_by(8, s.0, k),
+        End::NoRoom => stops_by(9, 0, 0),
+        End::NoRows => stops_by(10, 0, 0),
+    }
+}
+
+// What is told of what the base behind the answered ones got.
+pub fn stopped_of(a: Answer) -> Stopped
+    ensures { λ t. ⌜ t ≡ stoppedOf a ⌝ }
 {
     match a {
-        Answer::Found(n, o) => found_told(n, o),
-        Answer::Refused(x) => refused_told(measures::refusal_number(x), 0, 0),
-        Answer::Ended(e) => end_told(e),
+        Answer::Found(n, o) => stops_by(0, 0, 0),
+        Answer::Refused(x) => stops_by(measures::refusal_number(x), 0, 0),
+        Answer::Ended(e) => end_stops(e),
     }
 }

@@ -20,10 +20,12 @@ use Rattle.rules.specs.declared.Stage.the-variants.{Fresh, After, Over}
 use Rattle.rules.specs.declared.Answer.{Answer}
 use Rattle.rules.specs.declared.Answer.the-variants as answer
 use Rattle.heads.specs.View.{Cols}
+use Rattle.queue.specs.declared.Ring.{Ring}
+use Rattle.admit.specs.Right.{right}
 use Rattle.pulls.specs.Pulls.{Lent}
 use Rattle.runs.specs.declared.Run.{Run}
-use Rattle.runs.specs.View.{stageOf}
-use Rattle.runs.specs.Comes.{rightOf}
+use Rattle.runs.specs.View.{ringOf, stageOf}
+use Rattle.runs.specs.Comes.{lensOf, rightOf}
 use Rattle.step.specs.Settle.{Going}
 use Rattle.step.specs.Give.{Gives}
 use Rattle.step.proofs.Giving.{over-so, wrong-so}
@@ -63,9 +65,32 @@ uneven-so t ns r e i z = clash yes (sym e ∙ i)
     yes : test t ns ≡ true
     yes = rw (eq-eqb (length (t .start)) (length (t .chrom)) (z .starts), eq-eqb (length (t .stop)) (length (t .chrom)) (z .stops), le-leb (length (t .chrom)) (length ns) (z .counts))
 
+-- there is a base, where the columns are even
+some : (t : Cols) (y : Bool) → y && eqb (length (t .chrom)) 0 ≡ false → y ≡ true → 0 < length (t .chrom)
+some t y e i = go (eqb (length (t .chrom)) 0) refl
+  where
+    go : (c : Bool) → eqb (length (t .chrom)) 0 ≡ c → 0 < length (t .chrom)
+    go true j = clash (rw (i, j) refl) e
+    go false j = omega (arith, eqb-false (length (t .chrom)) 0 j)
+
+-- ---- the test of 1
+
+-- as it came out, with the ring that stands for what waits
+pub record Judged (s : Cols) (lengths : List ℕ) (r : Run) (l : Lent) (q : Ring) (x : Bool) : Type 0 where
+  pub ring : q ≡ ringOf r
+  pub is : x ≡ right (lensOf s lengths l) (r .settings .streams) (r .settings .chroms) q (r .ended) (r .row) (r .next) (r .from) (r .to) (l .cells)
+
+right-told : (s : Cols) (lengths : List ℕ) (r : Run) (l : Lent) (q : Ring) (x y : Bool) → Judged s lengths r l q x → x ≡ y → rightOf s lengths r l ≡ y
+right-told s lengths r l q x y e j = ap (λ (p : Ring). right (lensOf s lengths l) (r .settings .streams) (r .settings .chroms) p (r .ended) (r .row) (r .next) (r .from) (r .to) (l .cells)) (sym (e .ring)) ∙ sym (e .is) ∙ j
+
+goes-uneven : (u : Stage) → Going u → unevenBy u ≡ answer.Refused Sizes
+goes-uneven Fresh z = refl
+goes-uneven (After b) z = refl
+goes-uneven (Over e) z = absurd z
+
 -- ---- the call
 
-module _ (s : Cols) (lengths : List ℕ) (t : Cols) (r : Run) (l : Lent) (ns : List ℕ) where
+module _ {s : Cols} {lengths : List ℕ} {t : Cols} {r : Run} {l : Lent} {ns : List ℕ} where
   by-even : (p : Passed) (l′ : Lent) (ns′ : List ℕ) → Even t ns → Answers s lengths t r l ns p l′ ns′ → GivesAll s lengths t r l ns p l′ ns′
   by-even p l′ ns′ e a = record { even = λ z. a; uneven = λ z. absurd (z e) }
 
@@ -80,17 +105,9 @@ module _ (s : Cols) (lengths : List ℕ) (t : Cols) (r : Run) (l : Lent) (ns : L
         (by-even (nonePassed r (answer.Found 0 Nothing)) l ns (even-so t ns y is (and-left y (eqb (length (t .chrom)) 0) e))
         (record { run = r; lent = l; passes = none; ends = all (sym (eqb-true (length (t .chrom)) 0 (and-also y (eqb (length (t .chrom)) 0) e))) }))
 
-    -- there is one, where the columns are even
-    some : y && eqb (length (t .chrom)) 0 ≡ false → y ≡ true → 0 < length (t .chrom)
-    some e i = go (eqb (length (t .chrom)) 0) refl
-      where
-        go : (c : Bool) → eqb (length (t .chrom)) 0 ≡ c → 0 < length (t .chrom)
-        go true j = clash (rw (i, j) refl) e
-        go false j = omega (arith, eqb-false (length (t .chrom)) 0 j)
-
     -- the first base gets no records, the run stays as it is and so does all that was lent
     first-other : y && eqb (length (t .chrom)) 0 ≡ false → y ≡ true → (a : Answer) → Unfound a → Gives s lengths r (baseAt t 0) l (record { run = r; answer = a }) l → GivesAll s lengths t r l ns (nonePassed r a) l ns
-    first-other e i a u g = by-even (nonePassed r a) l ns (even-so t ns y is i) (record { run = r; lent = l; passes = none; ends = other a r l (some e i) (λ j. absurd (omega (arith, j))) u g refl })
+    first-other e i a u g = by-even (nonePassed r a) l ns (even-so t ns y is i) (record { run = r; lent = l; passes = none; ends = other a r l (some t y e i) (λ j. absurd (omega (arith, j))) u g refl })
 
     -- "an ended run first (its old answer again)"
     pub over-given : y && eqb (length (t .chrom)) 0 ≡ false → (f : End) → stageOf r ≡ Over f → (p : Passed) → p ≡ nonePassed r (answer.Ended f) → GivesAll s lengths t r l ns p l ns
@@ -102,21 +119,15 @@ module _ (s : Cols) (lengths : List ℕ) (t : Cols) (r : Run) (l : Lent) (ns : L
 
     -- "then 1"
     module _ (going : Going (stageOf r)) (p : Passed) (ps : p ≡ nonePassed r (answer.Refused Sizes)) where
-      goes-uneven : (u : Stage) → Going u → unevenBy u ≡ answer.Refused Sizes
-      goes-uneven Fresh z = refl
-      goes-uneven (After b) z = refl
-      goes-uneven (Over e) z = absurd z
-
       pub uneven-given : y ≡ false → GivesAll s lengths t r l ns p l ns
       uneven-given i = subst (λ (x : Passed). GivesAll s lengths t r l ns x l ns) (sym ps) (by-uneven (answer.Refused Sizes) (goes-uneven (stageOf r) going) (uneven-so t ns y is i))
 
-      pub wrong-given : y && eqb (length (t .chrom)) 0 ≡ false → y ≡ true → rightOf s lengths r l ≡ false → GivesAll s lengths t r l ns p l ns
-      wrong-given e i w = subst (λ (x : Passed). GivesAll s lengths t r l ns x l ns) (sym ps) (first-other e i (answer.Refused Sizes) tt (wrong-so s lengths r (baseAt t 0) l going w))
+      pub wrong-given : y && eqb (length (t .chrom)) 0 ≡ false → y ≡ true → {q : Ring} {x : Bool} → Judged s lengths r l q x → x ≡ false → GivesAll s lengths t r l ns p l ns
+      wrong-given e i {q} {x} u j = subst (λ (x : Passed). GivesAll s lengths t r l ns x l ns) (sym ps) (first-other e i (answer.Refused Sizes) tt (wrong-so s lengths r (baseAt t 0) l going (right-told s lengths r l q x false u j)))
 
     -- the bases are given
-    module _ (going : Going (stageOf r)) (i : y ≡ true) (right : rightOf s lengths r l ≡ true) where
-      pub passable : Passable s lengths t r l ns
-      passable = record { right = right; going = going; even = even-so t ns y is i }
+    pub passable : Going (stageOf r) → y && eqb (length (t .chrom)) 0 ≡ false → y ≡ true → {q : Ring} {x : Bool} → Judged s lengths r l q x → x ≡ true → Passable s lengths t r l ns
+    passable going e i {q} {x} u j = record { right = right-told s lengths r l q x true u j; going = going; even = even-so t ns y is i; some = some t y e i }
 
-      pub passed-given : (p : Passed) (l′ : Lent) (ns′ : List ℕ) → Answers s lengths t r l ns p l′ ns′ → GivesAll s lengths t r l ns p l′ ns′
-      passed-given p l′ ns′ a = by-even p l′ ns′ (even-so t ns y is i) a
+    pub passed-given : y ≡ true → (p : Passed) (l′ : Lent) (ns′ : List ℕ) → Answers s lengths t r l ns p l′ ns′ → GivesAll s lengths t r l ns p l′ ns′
+    passed-given i p l′ ns′ a = by-even p l′ ns′ (even-so t ns y is i) a

@@ -13,8 +13,9 @@ use Rattle.runs.specs.Comes.{rightOf}
 use Rattle.step.specs.Settle.{Going}
 use Rattle.many.specs.Many.{Even}
 
--- what the loop asks: a run that goes on and is not the cause of 1, and bases in columns of one length
+-- what the loop asks: a run that goes on and is not the cause of 1, and bases, at least one, in columns of one length
 pub record Passable (s : Cols) (lengths : List ℕ) (t : Cols) (v : Run) (l : Lent) (ns : List ℕ) : Type 0 where
   pub right : rightOf s lengths v l ≡ true
   pub going : Going (stageOf v)
   pub even : Even t ns
+  pub some : 0 < length (t .chrom)

@@ -64,27 +64,6 @@ fn none_passed(run: Run, last: Answer) -> Passed
     }
 }
 
-// Whether 1 is not due at a base of the run: of the lengths of all that is lent, and the queue's memory.
-fn is_right(run: Run, l: Lens, queue: &[[u64; 4]]) -> bool
-    requires { ⌜ length (now queue) ≡ l .queue ⌝ }
-    ensures { λ r. ⌜ r ≡ right l (run .settings .streams) (run .settings .chroms) (ringOf run) (run .ended) (run .row) (run .next) (run .from) (run .to) (now (queue .entry)) ⌝ }
-{
-    let fixed = run.settings;
-    let ring = run.ring();
-    admit::is_right(
-        fixed.streams,
-        fixed.chroms,
-        ring,
-        &run.ended,
-        &run.row,
-        &run.next,
-        &run.from,
-        &run.to,
-        l,
-        queue,
-    )
-}
-
 // Whether there is a further base, and as many answer rows for it as records can wait.
 fn is_more(k: usize, bases: usize, free: usize, rows: usize, room: usize) -> bool
     requires { ⌜ free ≤ rows ⌝ }
@@ -118,7 +97,8 @@ fn gather(
     }
 }
 
-// The bases, one after the other, of a run that goes on and is not the cause of 1.
+// The bases, one after the other, of a run that goes on and is not the cause of 1. There is at least one. The end of the run is told at once; every other
+// way out of the loop leads to its end, where the run is put together.
 fn pass(
     run: Run,
     bchrom: &[u64],
@@ -145,9 +125,11 @@ fn pass(
     let mut ring = run.ring();
     let mut mark = run.mark;
     let mut offer = Offer::Nothing;
+    let mut last = Answer::Found(0, Offer::Nothing);
     let mut free: usize = 0;
     let mut k: usize = 0;
-    while is_more(k, bchrom.len(), free, answers.len(), fixed.room) {
+    let mut going = true;
+    while going {
         let b = base_at(bchrom, bstart, bstop, k);
         let at = State {
             fixed: fixed,
@@ -178,20 +160,11 @@ fn pass(
                 ring = a.ring;
                 mark = runs::mark_of(Stage::After(b));
                 offer = o;
+                going = is_more(k, bchrom.len(), free, answers.len(), fixed.room);
             }
             Answer::Refused(x) => {
-                return gather(
-                    run,
-                    fours,
-                    ended,
-                    next,
-                    ring,
-                    mark,
-                    k,
-                    free,
-                    offer,
-                    Answer::Refused(x),
-                );
+                last = Answer::Refused(x);
+                going = false;
             }
             Answer::Ended(e) => {
                 return Passed {
@@ -204,18 +177,7 @@ fn pass(
             }
         }
     }
-    gather(
-        run,
-        fours,
-        ended,
-        next,
-        ring,
-        mark,
-        k,
-        free,
-        offer,
-        Answer::Found(0, Offer::Nothing),
-    )
+    gather(run, fours, ended, next, ring, mark, k, free, offer, last)
 }
 
 // Gives the bases of three columns to a run, one after the other, each as the call for one base would, until one gets no records but a refusal or the
@@ -257,7 +219,20 @@ pub fn give_all(
     if !even {
         return none_passed(run, Answer::Refused(Refusal::Sizes));
     }
-    if !is_right(run, l, queue) {
+    let fixed = run.settings;
+    let ring = run.ring();
+    if !admit::is_right(
+        fixed.streams,
+        fixed.chroms,
+        ring,
+        &run.ended,
+        &run.row,
+        &run.next,
+        &run.from,
+        &run.to,
+        l,
+        queue,
+    ) {
         return none_passed(run, Answer::Refused(Refusal::Sizes));
     }
     pass(

@@ -1,35 +1,31 @@
 -- The call for many bases, of one base: as the call for one says.
 use mathlib.Core.Path.{_≡_, refl, sym, ap, subst, _∙_}
-use mathlib.Core.List.{List, [], _∷_}
+use mathlib.Core.List.{List}
 use Prim.Native.Nat.{ℕ, _+_, _<_, _≤_}
 use native.Mathlib.Omega.{arith}
 use lib.ListN.{length}
-use Rattle.rules.specs.declared.Base.{Base}
 use Rattle.rules.specs.declared.Offer.{Offer}
 use Rattle.rules.specs.declared.Offer.the-variants.{Nothing}
 use Rattle.rules.specs.declared.Answer.{Answer}
 use Rattle.rules.specs.declared.Answer.the-variants as answer
-use Rattle.heads.specs.View.{Cols, cols}
+use Rattle.heads.specs.View.{Cols}
 use Rattle.pulls.specs.Pulls.{Lent}
 use Rattle.runs.specs.declared.Run.{Run}
 use Rattle.runs.specs.declared.Given.{Given}
 use Rattle.step.specs.Give.{Gives}
 use Rattle.many.specs.declared.Passed.{Passed}
-use Rattle.many.specs.Many.{baseAt, behind, Stays, Passes, none, one, Ends, all, short, other, Even, Answers, GivesAll}
-
--- a base as columns of one
-abbrev pub single : Base → Cols
-single b = cols (b .chrom .0 ∷ []) (b .start ∷ []) (b .stop ∷ [])
+use Rattle.many.specs.Many.{baseAt, behind, Stays, Passes, none, one, Unfound, Ends, all, short, other, Even, Answers, GivesAll}
 
 -- of no base answered: where it began
-record Begin (r : Run) (l : Lent) (u : ℕ) (v : Run) (m : Lent) : Type 0 where
+record Begin (r : Run) (l : Lent) (u : ℕ) (p : Offer) (v : Run) (m : Lent) : Type 0 where
   free : u ≡ 0
+  offer : p ≡ Nothing
   run : v ≡ r
   lent : m ≡ l
 
 module _ {s : Cols} {lengths : List ℕ} {t : Cols} {r : Run} {l : Lent} {ns : List ℕ} where
-  passes-none : {k u : ℕ} {p : Offer} {v : Run} {m : Lent} {ms : List ℕ} → Passes s lengths t r l ns k u p v m ms → k ≡ 0 → Begin r l u v m
-  passes-none none e = record { free = refl; run = refl; lent = refl }
+  passes-none : {k u : ℕ} {p : Offer} {v : Run} {m : Lent} {ms : List ℕ} → Passes s lengths t r l ns k u p v m ms → k ≡ 0 → Begin r l u p v m
+  passes-none none e = record { free = refl; offer = refl; run = refl; lent = refl }
   passes-none (one i o r₂ l₂ q g z) e = absurd (omega (arith, e))
 
   -- of one base answered: it was given as it began
@@ -37,7 +33,7 @@ module _ {s : Cols} {lengths : List ℕ} {t : Cols} {r : Run} {l : Lent} {ns : L
   passes-one none e = absurd (omega (arith, e))
   passes-one (one {k = k} {u = u} {r₁ = r₁} {l₁ = l₁} i o r₂ l₂ q g z) e =
       let j : k ≡ 0 = omega arith in
-      let w : Begin r l u r₁ l₁ = passes-none q j in
+      let w = passes-none q j in
       let n : u + i ≡ i = omega (arith, w .free) in
       rw n (go k j u (w .free) r₁ (w .run) l₁ (w .lent) g)
     where
@@ -49,20 +45,31 @@ module _ {s : Cols} {lengths : List ℕ} {t : Cols} {r : Run} {l : Lent} {ns : L
           (subst (λ (y : ℕ). Gives s lengths r′ (baseAt t 0) (behind y l′) (record { run = r₂; answer = answer.Found i o }) (behind y l₂)) b
           (subst (λ (y : ℕ). Gives s lengths r′ (baseAt t y) (behind u′ l′) (record { run = r₂; answer = answer.Found i o }) (behind u′ l₂)) a x)))
 
--- how a call for one base ended
-ends-one : {s : Cols} {lengths : List ℕ} {t : Cols} {k u : ℕ} {v : Run} {m : Lent} {a : Answer} {w : Run} {l′ : Lent} → Ends s lengths t k u v m a w l′ → length (t .chrom) ≡ 1 → k ≡ 1 → (w ≡ v) × (l′ ≡ m)
-ends-one (all e) n i = (refl, refl)
-ends-one (short b z f) n i = (refl, refl)
+-- how a call for one base ended: it was answered
+record One (v : Run) (m : Lent) (a : Answer) (w : Run) (l′ : Lent) : Type 0 where
+  run : w ≡ v
+  lent : l′ ≡ m
+  last : a ≡ answer.Found 0 Nothing
+
+ends-one : {s : Cols} {lengths : List ℕ} {t : Cols} {k u : ℕ} {v : Run} {m : Lent} {a : Answer} {w : Run} {l′ : Lent} → Ends s lengths t k u v m a w l′ → length (t .chrom) ≡ 1 → k ≡ 1 → One v m a w l′
+ends-one (all e) n i = record { run = refl; lent = refl; last = refl }
+ends-one (short b z f) n i = record { run = refl; lent = refl; last = refl }
 ends-one (other a w l′ b z x g y) n i = absurd (omega (arith, b, n, i))
 
+-- it was not
+record Other (s : Cols) (lengths : List ℕ) (t : Cols) (r : Run) (l : Lent) (k : ℕ) (a : Answer) (w : Run) (l′ : Lent) : Type 0 where
+  none : k ≡ 0
+  unfound : Unfound a
+  gives : Gives s lengths r (baseAt t 0) l (record { run = w; answer = a }) l′
+
 ends-none : {s : Cols} {lengths : List ℕ} {t : Cols} {r : Run} {l : Lent} {ns : List ℕ} {k u : ℕ} {p : Offer} {v : Run} {m : Lent} {ms : List ℕ} {a : Answer} {w : Run} {l′ : Lent} → Passes s lengths t r l ns k u p v m ms → Ends s lengths t k u v m a w l′
-    → length (t .chrom) ≡ 1 → (k ≡ 1 → ⊥) → Gives s lengths r (baseAt t 0) l (record { run = w; answer = a }) l′
+    → length (t .chrom) ≡ 1 → (k ≡ 1 → ⊥) → Other s lengths t r l k a w l′
 ends-none q (all e) n i = absurd (i (e ∙ n))
 ends-none q (short b z f) n i = absurd (omega (arith, b, z, n))
 ends-none {s} {lengths} {t} {r} {l} {k = k} {u = u} {v = v} {m = m} q (other a w l′ b z x g y) n i =
     let j : k ≡ 0 = omega (arith, b, n) in
     let f = passes-none q j in
-    go k j u (f .free) v (f .run) m (f .lent) g
+    record { none = j; unfound = x; gives = go k j u (f .free) v (f .run) m (f .lent) g }
   where
     go : (k′ : ℕ) → k′ ≡ 0 → (u′ : ℕ) → u′ ≡ 0 → (r′ : Run) → r′ ≡ r → (m′ : Lent) → m′ ≡ l → Gives s lengths r′ (baseAt t k′) (behind u′ m′) (record { run = w; answer = a }) (behind u′ l′)
         → Gives s lengths r (baseAt t 0) l (record { run = w; answer = a }) l′
@@ -73,15 +80,26 @@ ends-none {s} {lengths} {t} {r} {l} {k = k} {u = u} {v = v} {m = m} q (other a w
         (subst (λ (o : ℕ). Gives s lengths r′ (baseAt t o) (behind u′ m′) (record { run = w; answer = a }) (behind u′ l′)) d h′)))
 
 -- what came out
-module _ (b : Base) {s : Cols} {lengths : List ℕ} {r : Run} {l : Lent} {p : Passed} {l′ : Lent} {ns ns′ : List ℕ} (n : length ns ≡ 1) (x : GivesAll s lengths (single b) r l ns p l′ ns′) where
-  answers : Answers s lengths (single b) r l ns p l′ ns′
-  answers = x .even (record { starts = refl; stops = refl; counts = omega (arith, n) })
+module _ {s : Cols} {lengths : List ℕ} {t : Cols} {r : Run} {l : Lent} {p : Passed} {l′ : Lent} {ns ns′ : List ℕ} (n : length (t .chrom) ≡ 1) (even : Even t ns) (x : GivesAll s lengths t r l ns p l′ ns′) where
+  answers : Answers s lengths t r l ns p l′ ns′
+  answers = x .even even
 
-  pub single-found : p .bases ≡ 1 → Gives s lengths r b l (record { run = p .run; answer = answer.Found (p .records) (p .offer) }) l′
+  pub single-found : p .bases ≡ 1 → Gives s lengths r (baseAt t 0) l (record { run = p .run; answer = answer.Found (p .records) (p .offer) }) l′
   single-found i =
-      let e = ends-one (answers .ends) refl i in
-      subst (λ (w : Run). Gives s lengths r b l (record { run = w; answer = answer.Found (p .records) (p .offer) }) l′) (sym (e .0))
-      (subst (λ (m : Lent). Gives s lengths r b l (record { run = answers .run; answer = answer.Found (p .records) (p .offer) }) m) (sym (e .1)) (passes-one (answers .passes) i))
+      let e = ends-one (answers .ends) n i in
+      subst (λ (w : Run). Gives s lengths r (baseAt t 0) l (record { run = w; answer = answer.Found (p .records) (p .offer) }) l′) (sym (e .run))
+      (subst (λ (m : Lent). Gives s lengths r (baseAt t 0) l (record { run = answers .run; answer = answer.Found (p .records) (p .offer) }) m) (sym (e .lent)) (passes-one (answers .passes) i))
 
-  pub single-other : (p .bases ≡ 1 → ⊥) → Gives s lengths r b l (record { run = p .run; answer = p .last }) l′
-  single-other i = ends-none (answers .passes) (answers .ends) refl i
+  -- and nothing stopped it
+  pub single-last : p .bases ≡ 1 → p .last ≡ answer.Found 0 Nothing
+  single-last i = ends-one (answers .ends) n i .last
+
+  pub single-other : (p .bases ≡ 1 → ⊥) → Gives s lengths r (baseAt t 0) l (record { run = p .run; answer = p .last }) l′
+  single-other i = ends-none (answers .passes) (answers .ends) n i .gives
+
+  -- and no base was answered, so there are no records and nothing was offered
+  pub single-none : (p .bases ≡ 1 → ⊥) → (p .bases ≡ 0) × ((p .records ≡ 0) × ((p .offer ≡ Nothing) × Unfound (p .last)))
+  single-none i =
+      let e = ends-none (answers .passes) (answers .ends) n i in
+      let b = passes-none (answers .passes) (e .none) in
+      (e .none, (b .free, (b .offer, e .unfound)))

@@ -1,7 +1,7 @@
 //! The calls themselves, with the memory that they are lent: what they leave of it, and what they make of any content.
 
 use crate::batches::{job, Job, LENGTHS};
-use crate::raw::{self, any, Cols, Found, Mark, Names, Run, Settings, Slot, Swept, Told};
+use crate::raw::{self, any, Cols, Found, Mark, Names, Offered, Run, Settings, Slot, Stopped, Swept};
 use crate::rng::Rng;
 use cedarlash::Base;
 use std::panic::{catch_unwind, AssertUnwindSafe};
@@ -49,28 +49,38 @@ impl Lent {
         Lent { run, cols, queue, answers, counts: vec![OLD as usize; counts] }
     }
 
-    fn give(&mut self, base: Base) -> Told {
-        raw::give(&mut self.run, base, lend(&self.cols), &LENGTHS, &mut self.queue, &mut self.answers)
+    /// A base alone; its count goes elsewhere.
+    fn give(&mut self, base: Base) -> Swept {
+        let (queue, answers) = (&mut self.queue, &mut self.answers);
+        raw::give(&mut self.run, Cols::of_one(&base), lend(&self.cols), &LENGTHS, queue, answers, &mut [0])
     }
 
     fn give_all(&mut self, bases: Cols) -> Swept {
         let (queue, answers, counts) = (&mut self.queue, &mut self.answers, &mut self.counts);
-        raw::give_all(&mut self.run, bases, lend(&self.cols), &LENGTHS, queue, answers, counts)
+        raw::give(&mut self.run, bases, lend(&self.cols), &LENGTHS, queue, answers, counts)
     }
 
     /// The same with no look at the lengths.
-    fn give_any(&mut self, base: Base) -> Told {
-        fenced(&mut self.queue, [OLD; 4], |queue| {
-            fenced(&mut self.answers, [OLD; 2], |answers| {
-                any::give(&mut self.run, base, lend(&self.cols), &LENGTHS, queue, answers)
-            })
-        })
+    fn give_any(&mut self, base: Base) -> Swept {
+        let (mut counts, one) = (vec![OLD as usize], Cols::of_one(&base));
+        let swept = self.give_to(one, &mut counts);
+        assert_eq!(counts[0], if swept.bases == 1 { swept.records } else { OLD as usize });
+        swept
     }
 
     fn give_all_any(&mut self, bases: Cols) -> Swept {
+        let mut counts = std::mem::take(&mut self.counts);
+        let swept = self.give_to(bases, &mut counts);
+        self.counts = counts;
+        swept
+    }
+
+    fn give_to(&mut self, bases: Cols, counts: &mut Vec<usize>) -> Swept {
         fenced(&mut self.queue, [OLD; 4], |queue| {
             fenced(&mut self.answers, [OLD; 2], |answers| {
-                any::give_all(&mut self.run, bases, lend(&self.cols), &LENGTHS, queue, answers, &mut self.counts)
+                fenced(counts, OLD as usize, |counts| {
+                    any::give(&mut self.run, bases, lend(&self.cols), &LENGTHS, queue, answers, counts)
+                })
             })
         })
     }
@@ -98,13 +108,15 @@ fn what_is_lent_behind_the_answers_stays() {
         let mut alone = Lent::begin(&job, 0, 0);
         let mut many = Lent::begin(&job, spare, job.bases.len() + more);
         let swept = many.give_all(lend(&three(&job.bases)));
-        let (mut counts, mut answers) = (Vec::new(), Vec::new());
+        let (mut counts, mut answers, mut offer) = (Vec::new(), Vec::new(), NOTHING.offer);
         for &base in &job.bases[..swept.bases] {
-            let told = alone.give(base);
-            assert_eq!(told.refusal, 0);
-            counts.push(told.count);
-            answers.extend_from_slice(&alone.answers[..told.count]);
+            let one = alone.give(base);
+            assert_eq!((one.bases, one.last), (1, NONE));
+            counts.push(one.records);
+            answers.extend_from_slice(&alone.answers[..one.records]);
+            offer = one.offer;
         }
+        assert_eq!(swept.offer, offer);
         assert_eq!(swept.records, answers.len());
         counts.resize(many.counts.len(), OLD as usize);
         answers.resize(many.answers.len(), [OLD; 2]);
@@ -112,15 +124,21 @@ fn what_is_lent_behind_the_answers_stays() {
         // What the next one got; then the run goes on as the other does, offers and all.
         let mut left = job.bases[swept.bases..].iter();
         match swept.last.refusal {
-            0 => assert_eq!(swept.last, NOTHING),
-            _ => assert_eq!(swept.last, alone.give(*left.next().expect("a base was refused"))),
+            0 => assert_eq!(swept.last, NONE),
+            _ => assert_eq!(stopped(swept.last), alone.give(*left.next().expect("a base was refused"))),
         }
         left.for_each(|&base| assert_eq!(many.give(base), alone.give(base)));
     }
 }
 
-const NOTHING: Told = Told { refusal: 0, count: 0, stream: 0, row: 0, offered: 0, chrom: 0, stop: 0 };
-const SIZES: Told = Told { refusal: 1, ..NOTHING };
+const NONE: Stopped = Stopped { refusal: 0, stream: 0, row: 0 };
+const NOTHING: Swept = Swept { bases: 0, records: 0, offer: Offered { any: 0, chrom: 0, stop: 0 }, last: NONE };
+const SIZES: Swept = stopped(Stopped { refusal: 1, ..NONE });
+
+/// The first base was stopped.
+const fn stopped(last: Stopped) -> Swept {
+    Swept { last, ..NOTHING }
+}
 
 // ---- lengths
 
@@ -164,12 +182,12 @@ fn broken_lengths() {
 fn broken_lengths_are_refused_by_the_call() {
     for given in [0, 1, 2] {
         let mut good = Lent::begin(&small(), 0, 3);
-        small().bases[..given].iter().for_each(|&base| assert_eq!(good.give(base).refusal, 0));
+        small().bases[..given].iter().for_each(|&base| assert_eq!(good.give(base).last, NONE));
         for spoil in UNEVEN {
             let (mut lent, mut bases) = (good.clone(), three(&small().bases));
             spoil(&mut lent, &mut bases);
             let before = lent.clone();
-            assert_eq!(lent.give_all_any(lend(&bases)), Swept { bases: 0, records: 0, last: SIZES });
+            assert_eq!(lent.give_all_any(lend(&bases)), SIZES);
             assert_eq!(lent, before);
         }
     }
@@ -199,28 +217,28 @@ fn broken_lengths_of_a_base() {
 /// An ended run gives its old answer, whatever is lent, and stays as it is. Where no base is given, none is answered.
 #[test]
 fn an_ended_run_with_broken_lengths() {
-    let faults: [(Vec<Base>, usize, Told); 3] = [
-        (vec![Base { chrom: 0, start: 9, stop: 3 }], 4, Told { refusal: 7, ..NOTHING }),
+    let faults: [(Vec<Base>, usize, Stopped); 3] = [
+        (vec![Base { chrom: 0, start: 9, stop: 3 }], 4, Stopped { refusal: 7, ..NONE }),
         (
             vec![Base { chrom: 0, start: 1, stop: 3 }, Base { chrom: 0, start: 0, stop: 3 }],
             4,
-            Told { refusal: 8, row: 1, ..NOTHING },
+            Stopped { refusal: 8, row: 1, ..NONE },
         ),
-        (vec![Base { chrom: 0, start: 0, stop: 9 }; 5], 4, Told { refusal: 9, ..NOTHING }),
+        (vec![Base { chrom: 0, start: 0, stop: 9 }; 5], 4, Stopped { refusal: 9, ..NONE }),
     ];
-    for (rows, room, told) in faults {
+    for (rows, room, last) in faults {
         let job = Job { streams: vec![rows], room, ..small() };
         let mut ended = Lent::begin(&job, 0, 3);
-        assert_eq!(ended.give(job.bases[0]), told);
-        let old = Swept { bases: 0, records: 0, last: told };
+        let old = stopped(last);
+        assert_eq!(ended.give(job.bases[0]), old);
         for spoil in UNEVEN {
             let (mut lent, mut bases) = (ended.clone(), three(&job.bases));
             spoil(&mut lent, &mut bases);
             let before = lent.clone();
-            assert_eq!((lent.give_all_any(lend(&bases)), lent.give_any(job.bases[0])), (old, told));
+            assert_eq!((lent.give_all_any(lend(&bases)), lent.give_any(job.bases[0])), (old, old));
             assert_eq!(lent, before);
         }
-        assert_eq!(ended.give_all_any(lend(&three(&[]))), Swept { last: NOTHING, ..old });
+        assert_eq!(ended.give_all_any(lend(&three(&[]))), NOTHING);
     }
 }
 
@@ -233,8 +251,8 @@ fn settings_that_do_not_fit() {
     let begins = |settings: Settings, from: &[usize], to: &[usize]| {
         let mut lent = Lent::begin(&job, 0, 3);
         let number = any::begin(&mut lent.run, settings, from, to, NAMES, lend(&cols));
-        let told = lent.give(job.bases[0]);
-        assert_eq!(told, if number == 0 { Told { count: 1, ..NOTHING } } else { SIZES });
+        let swept = lent.give(job.bases[0]);
+        assert_eq!(swept, if number == 0 { Swept { bases: 1, records: 1, ..NOTHING } } else { SIZES });
         number
     };
     assert_eq!(begins(good, &[0], &[1]), 0);
@@ -347,9 +365,8 @@ fn any_content_is_a_run() {
                 (swept.records, swept.last)
             }
             false => {
-                let told = lent.give_any(bases[0]);
-                assert_eq!(lent.counts, before.counts);
-                (told.count, told)
+                let swept = lent.give_any(bases[0]);
+                (swept.records, swept.last)
             }
         };
         met[told.refusal as usize] += 1;
@@ -362,7 +379,7 @@ fn any_content_is_a_run() {
             3..=6 => assert!(found > 0 || many || lent == before, "{before:?}"),
             7..=10 => {
                 let again = lent.clone();
-                assert_eq!((lent.give_any(bases[0]), lent.run, &lent.queue), (told, again.run, &again.queue));
+                assert_eq!((lent.give_any(bases[0]), lent.run, &lent.queue), (stopped(told), again.run, &again.queue));
             }
             other => panic!("no refusal of a base: {other}"),
         }

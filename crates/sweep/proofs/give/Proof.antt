@@ -30,8 +30,7 @@ same-length-2 c = search needs
 returns : tie.Need-returns
 returns c =
     let at-give-all = c .before .before .before .before .before .before in
-    let at-args = at-give-all .before .before .before .before .before .before .before .before .before .before .before .before in
-    single-found (at-args .args .b) refl (at-give-all .give-all .ensures) (c .if1 .taken)
+    single-found refl (record { starts = refl; stops = refl; counts = omega arith }) (at-give-all .give-all .ensures) (c .if1 .taken)
 
 same-length-3 : tie.Need-same-length-3
 same-length-3 c = search needs
@@ -42,8 +41,7 @@ same-length-4 c = search needs
 returns-2 : tie.Need-returns-2
 returns-2 c =
     let at-give-all = c .before .before .before .before .before .before in
-    let at-args = at-give-all .before .before .before .before .before .before .before .before .before .before .before .before in
-    single-other (at-args .args .b) refl (at-give-all .give-all .ensures) (c .if1 .left)
+    single-other refl (record { starts = refl; stops = refl; counts = omega arith }) (at-give-all .give-all .ensures) (c .if1 .left)
 
 pub give-spec : {M : Type 1} → statement M
 give-spec =
