@@ -44,7 +44,7 @@ use Rattle.runs.specs.Start.{Plan, runFrom, startOf, Lends}
 use Rattle.runs.proofs.ViewLaws.{eight-at}
 use Rattle.runs.proofs.MarkLaws.{stage-back}
 use Rattle.runs.proofs.StartLaws.{begun-right}
-use Rattle.demands.specs.Calls.{Unheeded, Calls, none, call, unheeded, Runs, Blameless, SizedAs, lastRun, lastCells}
+use Rattle.demands.specs.Calls.{Unheeded, Came, Calls, none, call, unheeded, Runs, Blameless, SizedAs, lastRun, lastCells}
 use Rattle.demands.proofs.KeptLaws.{each-all, Holds, give-holds}
 use Rattle.demands.proofs.RangedLaws.{Ranged, drawn-ranged}
 use Rattle.demands.proofs.RunAnswers.{FitsOf, fits-so, right-so, right-heeded}
@@ -229,14 +229,14 @@ returns-on {s} {lengths} {r} {u} {b} {l} {g} {l′} {d} gives ok whole on =
     record { blameless = y .blameless; sized = sized-trans (x .sized) (y .sized); whole = y .whole }
 
 -- the last of the calls
-calls-return : {s : Cols} {lengths : List ℕ} {r : Run} {c : Cells} {bs : List Base} {ts : List Reply} (k : Calls s lengths r c bs ts) → Blameless s lengths r c → Whole r → Returns s lengths r (lastRun k) (lastCells k)
+calls-return : {s : Cols} {lengths : List ℕ} {r : Run} {c : Cells} {bs : List Base} {os : List Came} (k : Calls s lengths r c bs os) → Blameless s lengths r c → Whole r → Returns s lengths r (lastRun k) (lastCells k)
 calls-return (none {r = r}) ok whole = record { blameless = ok; sized = sized-same r; whole = whole }
 calls-return (call answers g l′ gives heeded k) ok whole = returns-on gives ok whole (λ x y. calls-return k x y)
 calls-return (unheeded answers g l′ gives u k) ok whole = returns-on gives ok whole (λ x y. calls-return k x y)
 
 -- A run that begins by p, and its calls. Where the streams' rows begin stands in eight places, as the array's type says; the lengths and the queue's
 -- memory are those of the start, and with the answer rows that one more call lends they are as much as the sizes ask.
-module _ (p : Plan) (lengths : List ℕ) (bs : List Base) (ts : List Reply) (k : Runs p lengths bs ts) (places : length (p .from) ≡ 8) (answers : List (List ℕ)) (d : Lends p lengths (lent (k .cells) answers)) where
+module _ (p : Plan) (lengths : List ℕ) (bs : List Base) (os : List Came) (k : Runs p lengths bs os) (places : length (p .from) ≡ 8) (answers : List (List ℕ)) (d : Lends p lengths (lent (k .cells) answers)) where
   begun-blameless : Blameless (p .cols) lengths (startOf p .run) (k .cells)
   begun-blameless rows enough = begun-right p (k .begun) lengths (lent (k .cells) rows) (record { listed = d .listed; slots = d .slots; answer = rw (k .begun) at enough })
 

@@ -2,6 +2,7 @@
 pub mod RowsLaws
 pub mod KeptLaws
 pub mod RangedLaws
+pub mod Shown
 pub mod RunAnswers
 pub mod Demanded
 pub mod OneResult

@@ -12,11 +12,13 @@ use Rattle.rules.specs.declared.Refusal.the-variants.{Sizes}
 use Rattle.rules.specs.declared.Stage.{Stage}
 use Rattle.rules.specs.declared.Stage.the-variants.{Fresh, After, Over}
 use Rattle.rules.specs.declared.Answer.the-variants as answer
-use Rattle.rules.specs.Call.{Reply, found, refused, ended, answerOf, refuse, fresh, give}
+use Rattle.rules.specs.Call.{Reply, found, refused, ended, answerOf, column, refuse, fresh, give}
 use Rattle.rules.specs.Call as rules
 use Rattle.rules.specs.Job.{lending, onward, replies, answers}
 use Rattle.heads.specs.View.{Cols}
+use Rattle.basics.specs.Lists.{Pairs}
 use Rattle.queue.specs.Ring.{Cells, waiting}
+use Rattle.queue.specs.Deeds.{answerRow}
 use Rattle.queue.proofs.Waiting.{length-waiting}
 use Rattle.admit.specs.Gates.{lengthsOf}
 use Rattle.admit.specs.Fits.{Told, Fits}
@@ -32,7 +34,8 @@ use Rattle.step.specs.Give.{openedBy, Gives}
 use Rattle.runs.specs.Comes.{lensOf, rightOf, givenOf}
 use Rattle.runs.specs.Start.{Plan, streamsOf, runFrom, startOf}
 use Rattle.runs.proofs.StartLaws.{begun-fresh}
-use Rattle.demands.specs.Calls.{Unheeded, Calls, none, call, unheeded, jobOf, Runs}
+use Rattle.demands.specs.Calls.{Unheeded, Came, Calls, none, call, unheeded, jobOf, Runs}
+use Rattle.demands.proofs.Shown.{Shows}
 use Rattle.demands.proofs.RowsLaws.{give-rows, give-over, give-wrong, give-heeded}
 
 -- a reply that is answered by 1
@@ -94,27 +97,28 @@ module _ (s : Cols) (lengths : List ℕ) where
 
   -- ---- all calls
 
-  pub calls-replies : (Q : ℕ) {r : Run} {c : Cells} {bs : List Base} {ts : List Reply} → r .settings .room ≡ Q → Calls s lengths r c bs ts → ts ≡ replies (lengthsOf lengths) Q (runOf s c r) bs
+  -- what came of each call is what the rules' reply says
+  pub calls-shown : (Q : ℕ) {r : Run} {c : Cells} {bs : List Base} {os : List Came} → r .settings .room ≡ Q → Calls s lengths r c bs os → Pairs Shows (replies (lengthsOf lengths) Q (runOf s c r) bs) os
   unfolding replies
-  calls-replies Q q none = refl
-  calls-replies Q q (call {r = r} {c = c} {b = b} {bs = bs} {ts = ts} rows g l′ gives heeded k) =
+  calls-shown Q q none = Pairs.nil
+  calls-shown Q q (call {r = r} {c = c} {b = b} {bs = bs} {os = os} rows g l′ gives heeded k) =
       let l : Lent = lent c rows in
       let is : givenOf s lengths r b l ≡ give (lengthsOf lengths) Q (lending Q) (runOf s c r) b =
       heeded-given r b l g (gives .settles .answer) heeded ∙ ap (λ (n : ℕ). give (lengthsOf lengths) n (lending n) (runOf s c r) b) q in
-      let more : ts ≡ replies (lengthsOf lengths) Q (give (lengthsOf lengths) Q (lending Q) (runOf s c r) b .run) bs =
-      calls-replies Q (gives .settles .room ∙ q) k ∙ ap (λ (x : rules.Run). replies (lengthsOf lengths) Q x bs) (gives .settles .run ∙ ap (λ (x : rules.Given). x .run) is) in
-      ap (λ (x : rules.Given). x .reply ∷ ts) is ∙ ap (λ (k : List Reply). give (lengthsOf lengths) Q (lending Q) (runOf s c r) b .reply ∷ k) more
-  calls-replies Q q (unheeded {r = r} {c = c} {b = b} {bs = bs} rows g l′ gives u k) =
+      let next : runOf s (l′ .cells) (g .run) ≡ give (lengthsOf lengths) Q (lending Q) (runOf s c r) b .run = gives .settles .run ∙ ap (λ (x : rules.Given). x .run) is in
+      Pairs.cons
+      (record { answer = gives .settles .answer ∙ ap (λ (x : rules.Given). answerOf (x .reply)) is; rows = gives .settles .answers ∙ ap (λ (x : rules.Given). column answerRow (x .reply) rows) is })
+      (subst (λ (x : rules.Run). Pairs Shows (replies (lengthsOf lengths) Q x bs) os) next (calls-shown Q (gives .settles .room ∙ q) k))
+  calls-shown Q q (unheeded {r = r} {c = c} {b = b} {bs = bs} {os = os} rows g l′ gives u k) =
       let l : Lent = lent c rows in
       let no : givenOf s lengths r b l .reply ≡ refused Sizes = sizes-reply (givenOf s lengths r b l .reply) (sym (gives .settles .answer) ∙ u) in
       let run-same : g .run ≡ r = gives .settles .exact ∙ ap (λ (t : Reply). runBy t b (drawnTo s (r .settings .chroms) b (openedBy (stageOf r) s (headsOf r))) r (ringOf (g .run))) no in
       let cells-same : l′ .cells ≡ c = ap (λ (x : Lent). x .cells) (gives .still Sizes no) in
-      calls-replies Q (gives .settles .room ∙ q) k
-      ∙ ap (λ (x : Cells). replies (lengthsOf lengths) Q (runOf s x (g .run)) bs) cells-same
-      ∙ ap (λ (x : Run). replies (lengthsOf lengths) Q (runOf s c x) bs) run-same
+      subst (λ (x : Run). Pairs Shows (replies (lengthsOf lengths) Q (runOf s c x) bs) os) run-same
+      (subst (λ (x : Cells). Pairs Shows (replies (lengthsOf lengths) Q (runOf s x (g .run)) bs) os) cells-same (calls-shown Q (gives .settles .room ∙ q) k))
 
--- the replies to the bases that are given to a run that begins are the job's answers by the rules
-pub run-answers : (p : Plan) (lengths : List ℕ) (bs : List Base) (ts : List Reply) → Runs p lengths bs ts → ts ≡ answers (jobOf p lengths) bs
-run-answers p lengths bs ts k =
-    calls-replies (p .cols) lengths (p .settings .room) (ap (λ (x : Begins). runFrom x p .settings .room) (k .begun)) (k .calls)
-    ∙ ap (λ (x : rules.Run). replies (lengthsOf lengths) (p .settings .room) x bs) (begun-fresh p (k .begun) (k .cells))
+-- of the bases that are given to a run that begins, what came of each is what the job's answers by the rules say
+pub run-answers : (p : Plan) (lengths : List ℕ) (bs : List Base) (os : List Came) → Runs p lengths bs os → Pairs Shows (answers (jobOf p lengths) bs) os
+run-answers p lengths bs os k =
+    subst (λ (x : rules.Run). Pairs Shows (replies (lengthsOf lengths) (p .settings .room) x bs) os) (begun-fresh p (k .begun) (k .cells))
+    (calls-shown (p .cols) lengths (p .settings .room) (ap (λ (x : Begins). runFrom x p .settings .room) (k .begun)) (k .calls))

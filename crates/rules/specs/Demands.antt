@@ -3,7 +3,7 @@ use mathlib.Core.Path.{_≡_}
 use mathlib.Core.Bool.{Bool, true, false, cond}
 use mathlib.Core.Option.{Option, none, some}
 use mathlib.Core.Logic.{_⊎_}
-use mathlib.Core.List.{List, [], _∷_, _++_}
+use mathlib.Core.List.{List, [], _∷_, _++_, map}
 use Prim.Native.Nat.{ℕ, _≤_}
 use lib.Dec.{eqb, ltb}
 use lib.ListN.{length, getD}
@@ -72,6 +72,14 @@ overfull j hs (b ∷ bs) =
     (overfull j hs bs)
     (cond (ltb (j .room) (length (crowd (mergedOf j) hs b))) true (overfull j (b ∷ hs) bs))
 
+-- more than Q records overlap an accepted base among `bs`, behind the accepted ones `hs`
+abbrev pub crowded : Job → List Base → List Base → Bool
+crowded j hs [] = false
+crowded j hs (b ∷ bs) =
+    cond (some? (judge (j .lengths) (head? hs) b))
+    (crowded j hs bs)
+    (cond (ltb (j .room) (length (filter (overlaps b) (mergedOf j)))) true (crowded j (b ∷ hs) bs))
+
 -- the reply is 9
 abbrev pub isNoRoom : Reply → Bool
 isNoRoom r = eqb (numberOf (answerOf r)) 9
@@ -99,10 +107,12 @@ pub record Demand3 (sweep : Sweep) : Type 0 where
   -- ""No room" comes at a base exactly if more than Q records of its chromosome end after its start and begin before the largest stop
   -- given on that chromosome so far, or the run has ended so."
   pub room : (j : Job) (bs : List Base) → ValidStreams j → (at : Spot bs) → isNoRoom (replyAt at (sweep j bs)) ≡ overfull j [] (at .ahead ++ at .base ∷ [])
+  -- that is: 9 comes at the first accepted base that more than Q records overlap, and to every base behind it
+  pub when : (j : Job) (bs : List Base) → ValidStreams j → (at : Spot bs) → isNoRoom (replyAt at (sweep j bs)) ≡ crowded j [] (at .ahead ++ at .base ∷ [])
   -- "A larger Q agrees until a smaller one refuses."
   pub larger : (j : Job) (Q : ℕ) (bs : List Base) → j .room ≤ Q → Pairs (λ r s. (r ≡ ended NoRoom) ⊎ (r ≡ s)) (sweep j bs) (sweep (withRoom j Q) bs)
   -- "Take valid streams and bases whose rows are all valid and in order. A base source may leave out any bases that the last offered
   -- place permits. Every base given is then answered or refused as in the full run, and every base left out has no record there."
   pub skips : (j : Job) → ValidStreams j → (l : List (Mark Base)) → ((at : Spot (every l)) → Accepted j at)
-      → lawful Nothing l (sweep j (given l)) ≡ true
+      → lawful Nothing l (map offered (sweep j (given l))) ≡ true
       → (sweep j (given l) ≡ heard l (sweep j (every l))) × All (λ c. filter (overlaps c) (mergedOf j) ≡ []) (missed l)

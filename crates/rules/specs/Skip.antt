@@ -4,7 +4,6 @@ use mathlib.Core.List.{List, [], _∷_}
 use Rattle.rules.specs.declared.Base.{Base}
 use Rattle.rules.specs.declared.Offer.{Offer}
 use Rattle.rules.specs.Offer.{hold, allowed}
-use Rattle.rules.specs.Call.{Reply, offered}
 
 -- a base that is given, or left out
 pub data Mark (B : Type 0) : Type 0 where
@@ -36,9 +35,9 @@ module _ {B : Type 0} where
   heard (skip b ∷ l) (r ∷ rs) = heard l rs
 
 -- "A base source may leave out any bases that the last offered place permits": each base left out is permitted by the place in
--- force, where the given bases get the replies `rs`
-abbrev pub lawful : Offer → List (Mark Base) → List Reply → Bool
-lawful g [] rs = true
+-- force, where the given bases are offered `os`
+abbrev pub lawful : Offer → List (Mark Base) → List Offer → Bool
+lawful g [] os = true
 lawful g (give b ∷ l) [] = false
-lawful g (give b ∷ l) (r ∷ rs) = lawful (hold g (offered r)) l rs
-lawful g (skip c ∷ l) rs = allowed g c && lawful g l rs
+lawful g (give b ∷ l) (o ∷ os) = lawful (hold g o) l os
+lawful g (skip c ∷ l) os = allowed g c && lawful g l os

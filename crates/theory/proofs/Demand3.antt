@@ -5,7 +5,7 @@ use mathlib.Core.Path.{_≡_, refl, sym, ap, _∙_}
 use mathlib.Core.Bool.{Bool}
 use mathlib.Core.List.{List, [], _∷_, _++_}
 use Prim.Native.Nat.{ℕ, _≤_}
-use Rattle.basics.specs.Lists.{Pairs}
+use Rattle.basics.specs.Lists.{Pairs, All, nil}
 use Rattle.basics.proofs.ListLaws.{pairs-at}
 use Rattle.rules.specs.declared.Base.{Base}
 use Rattle.rules.specs.declared.Refusal.the-variants.{Sizes}
@@ -17,6 +17,7 @@ use Rattle.rules.specs.Promise.{said}
 use Rattle.rules.specs.Demands.{ValidStreams, Spot, replyAt, overfull, isNoRoom, withRoom, Demand3}
 use Rattle.theory.proofs.Answers.{answers-promised}
 use Rattle.theory.proofs.Room.{Agree, room-exact, larger}
+use Rattle.theory.proofs.When.{full-when}
 use Rattle.theory.proofs.LeftOut.{Exact, said-exact, given-same, missed-none}
 
 offers : (j : Job) (bs : List Base) (at : Spot bs) → Exact (mergedOf j) (at .base) (replyAt at (answers j bs))
@@ -32,6 +33,7 @@ pub demand3 : Demand3 answers
 demand3 = record {
   offers = λ j bs ok at e. offers j bs at e;
   room = room;
+  when = λ j bs ok at. room j bs ok at ∙ full-when j [] (at .ahead ++ at .base ∷ []) (λ b e. nil) nil;
   larger = wider;
   skips = λ j ok l fit legal. (given-same j ok l fit legal, missed-none j ok l fit legal);
 }

@@ -102,13 +102,13 @@ module _ (n : ℕ) (M : List Record) (goods : All (λ r. good n (r .it) ≡ true
   allowed-idle hs c Nothing h e = clash e refl
   allowed-idle hs c (Upto g) h e = offer-idle hs (h .after) c g (h .was) (h .made) e
 
-  lawful-skips : (hs : List Base) (g : Offer) → InForce hs g → (l : List (Mark Base)) {rs : List Reply} → Pairs Made (given l) rs → lawful g l rs ≡ true → Skips overlap M hs l
+  lawful-skips : (hs : List Base) (g : Offer) → InForce hs g → (l : List (Mark Base)) {rs : List Reply} → Pairs Made (given l) rs → lawful g l (map offered rs) ≡ true → Skips overlap M hs l
   lawful-skips hs g h [] Pairs.nil e = Skips.stop
   lawful-skips hs g h (give b ∷ l) (Pairs.cons {y = r} p ps) e = gave (lawful-skips (b ∷ hs) (hold g (offered r)) (hold-next hs b g h (offered r) p) l ps e)
   lawful-skips hs g h (skip c ∷ l) {rs} ps e =
-      left (allowed-idle hs c g h (and-left (allowed g c) (lawful g l rs) e)) (lawful-skips hs g h l ps (and-also (allowed g c) (lawful g l rs) e))
+      left (allowed-idle hs c g h (and-left (allowed g c) (lawful g l (map offered rs)) e)) (lawful-skips hs g h l ps (and-also (allowed g c) (lawful g l (map offered rs)) e))
 
-  pub permitted : (l : List (Mark Base)) {rs : List Reply} → Pairs Made (given l) rs → lawful Nothing l rs ≡ true → Skips overlap M [] l
+  pub permitted : (l : List (Mark Base)) {rs : List Reply} → Pairs Made (given l) rs → lawful Nothing l (map offered rs) ≡ true → Skips overlap M [] l
   permitted l ps e = lawful-skips [] Nothing tt l ps e
 
 -- ---- bases that are all accepted
@@ -246,7 +246,7 @@ module _ (j : Job) (ok : ValidStreams j) where
       case none h = rw h
       case (some x) h = sym (dressed-ended all x (b ∷ bs))
 
-  module _ (l : List (Mark Base)) (fit : (at : Spot (every l)) → Accepted j at) (legal : lawful Nothing l (answers j (given l)) ≡ true) where
+  module _ (l : List (Mark Base)) (fit : (at : Spot (every l)) → Accepted j at) (legal : lawful Nothing l (map offered (answers j (given l))) ≡ true) where
     fits : AllAccepted (j .lengths) [] (every l)
     fits = from-spots (j .lengths) [] (every l) (λ pre b post q. fit (record { ahead = pre; base = b; later = post; whole = q }))
 

@@ -14,5 +14,6 @@ pub mod Skipping
 pub mod ValidLaws
 pub mod Demand2
 pub mod Room
+pub mod When
 pub mod LeftOut
 pub mod Demand3
