@@ -44,7 +44,7 @@ use Rattle.runs.specs.Start.{Plan, runFrom, startOf, Lends}
 use Rattle.runs.proofs.ViewLaws.{eight-at}
 use Rattle.runs.proofs.MarkLaws.{stage-back}
 use Rattle.runs.proofs.StartLaws.{begun-right}
-use Rattle.demands.specs.Calls.{Unheeded, Came, Calls, none, call, unheeded, Runs, Blameless, SizedAs, lastRun, lastCells}
+use Rattle.demands.specs.Calls.{Unheeded, Came, Calls, none, call, unheeded, Runs, Blameless, SizedAs}
 use Rattle.demands.proofs.KeptLaws.{each-all, Holds, give-holds}
 use Rattle.demands.proofs.RangedLaws.{Ranged, drawn-ranged}
 use Rattle.demands.proofs.RunAnswers.{FitsOf, fits-so, right-so, right-heeded}
@@ -229,7 +229,7 @@ returns-on {s} {lengths} {r} {u} {b} {l} {g} {l′} {d} gives ok whole on =
     record { blameless = y .blameless; sized = sized-trans (x .sized) (y .sized); whole = y .whole }
 
 -- the last of the calls
-calls-return : {s : Cols} {lengths : List ℕ} {r : Run} {c : Cells} {bs : List Base} {os : List Came} (k : Calls s lengths r c bs os) → Blameless s lengths r c → Whole r → Returns s lengths r (lastRun k) (lastCells k)
+calls-return : {s : Cols} {lengths : List ℕ} {r v : Run} {c d : Cells} {bs : List Base} {os : List Came} → Calls s lengths r c bs os v d → Blameless s lengths r c → Whole r → Returns s lengths r v d
 calls-return (none {r = r}) ok whole = record { blameless = ok; sized = sized-same r; whole = whole }
 calls-return (call answers g l′ gives heeded k) ok whole = returns-on gives ok whole (λ x y. calls-return k x y)
 calls-return (unheeded answers g l′ gives u k) ok whole = returns-on gives ok whole (λ x y. calls-return k x y)
@@ -243,17 +243,17 @@ module _ (p : Plan) (lengths : List ℕ) (bs : List Base) (os : List Came) (k : 
   begun-whole : Whole (startOf p .run)
   begun-whole = rw (k .begun) (λ z. record { chrom = refl; start = refl; stop = refl; row = refl; ended = refl; next = places })
 
-  begun-returns : Returns (p .cols) lengths (startOf p .run) (lastRun (k .calls)) (lastCells (k .calls))
+  begun-returns : Returns (p .cols) lengths (startOf p .run) (k .last) (k .left)
   begun-returns = calls-return (k .calls) begun-blameless begun-whole
 
   -- "its start and every call leave it with the sizes given at its start"
-  pub calls-sized : SizedAs (runFrom Begun p) (lastRun (k .calls))
-  calls-sized = subst (λ (x : Begins). SizedAs (runFrom x p) (lastRun (k .calls))) (k .begun) (begun-returns .sized)
+  pub calls-sized : SizedAs (runFrom Begun p) (k .last)
+  calls-sized = subst (λ (x : Begins). SizedAs (runFrom x p) (k .last)) (k .begun) (begun-returns .sized)
 
   -- "and naming, in heads and queue, dead slots too where these are looked at, only lent streams and rows"
-  pub calls-right : rightOf (p .cols) lengths (lastRun (k .calls)) (lent (lastCells (k .calls)) answers) ≡ true
+  pub calls-right : rightOf (p .cols) lengths (k .last) (lent (k .left) answers) ≡ true
   calls-right = begun-returns .blameless answers (rw (calls-sized .room) (d .answer))
 
   -- "1 is then due only to what that call is newly given": one more call, of any base, is not answered by 1
-  pub calls-heeded : (b : Base) (g : Given) (l′ : Lent) → Gives (p .cols) lengths (lastRun (k .calls)) b (lent (lastCells (k .calls)) answers) g l′ → Unheeded g → ⊥
-  calls-heeded b g l′ gives u = right-heeded (p .cols) lengths (lastRun (k .calls)) b (lent (lastCells (k .calls)) answers) g calls-right (gives .settles .answer) u
+  pub calls-heeded : (b : Base) (g : Given) (l′ : Lent) → Gives (p .cols) lengths (k .last) b (lent (k .left) answers) g l′ → Unheeded g → ⊥
+  calls-heeded b g l′ gives u = right-heeded (p .cols) lengths (k .last) b (lent (k .left) answers) g calls-right (gives .settles .answer) u

@@ -3,6 +3,7 @@ pub mod RowsLaws
 pub mod KeptLaws
 pub mod RangedLaws
 pub mod Shown
+pub mod Chained
 pub mod RunAnswers
 pub mod Demanded
 pub mod OneResult

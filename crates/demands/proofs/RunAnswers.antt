@@ -98,7 +98,7 @@ module _ (s : Cols) (lengths : List ℕ) where
   -- ---- all calls
 
   -- what came of each call is what the rules' reply says
-  pub calls-shown : (Q : ℕ) {r : Run} {c : Cells} {bs : List Base} {os : List Came} → r .settings .room ≡ Q → Calls s lengths r c bs os → Pairs Shows (replies (lengthsOf lengths) Q (runOf s c r) bs) os
+  pub calls-shown : (Q : ℕ) {r v : Run} {c d : Cells} {bs : List Base} {os : List Came} → r .settings .room ≡ Q → Calls s lengths r c bs os v d → Pairs Shows (replies (lengthsOf lengths) Q (runOf s c r) bs) os
   unfolding replies
   calls-shown Q q none = Pairs.nil
   calls-shown Q q (call {r = r} {c = c} {b = b} {bs = bs} {os = os} rows g l′ gives heeded k) =

@@ -38,15 +38,16 @@ pub record Came : Type 0 where
 abbrev pub came : Answer → List (List ℕ) → List (List ℕ) → Came
 came a old new = record { answer = a; before = old; after = new }
 
--- the calls of a run r whose queue's memory is c: the bases that are given, and what came of each; any answer rows are lent with each
-pub data Calls (s : Cols) (lengths : List ℕ) : Run → Cells → List Base → List Came → Type 0 where
-  none : {r : Run} {c : Cells} → Calls s lengths r c [] []
-  call : {r : Run} {c : Cells} {b : Base} {bs : List Base} {os : List Came} (answers : List (List ℕ)) (g : Given) (l′ : Lent)
-      → Gives s lengths r b (lent c answers) g l′ → (Unheeded g → ⊥) → Calls s lengths (g .run) (l′ .cells) bs os
-      → Calls s lengths r c (b ∷ bs) (came (g .answer) answers (l′ .answers) ∷ os)
-  unheeded : {r : Run} {c : Cells} {b : Base} {bs : List Base} {os : List Came} (answers : List (List ℕ)) (g : Given) (l′ : Lent)
-      → Gives s lengths r b (lent c answers) g l′ → Unheeded g → Calls s lengths (g .run) (l′ .cells) bs os
-      → Calls s lengths r c bs os
+-- the calls of a run r whose queue's memory is c: the bases that are given, what came of each, and the run and the memory as the last call left them; any
+-- answer rows are lent with each
+pub data Calls (s : Cols) (lengths : List ℕ) : Run → Cells → List Base → List Came → Run → Cells → Type 0 where
+  none : {r : Run} {c : Cells} → Calls s lengths r c [] [] r c
+  call : {r v : Run} {c d : Cells} {b : Base} {bs : List Base} {os : List Came} (answers : List (List ℕ)) (g : Given) (l′ : Lent)
+      → Gives s lengths r b (lent c answers) g l′ → (Unheeded g → ⊥) → Calls s lengths (g .run) (l′ .cells) bs os v d
+      → Calls s lengths r c (b ∷ bs) (came (g .answer) answers (l′ .answers) ∷ os) v d
+  unheeded : {r v : Run} {c d : Cells} {b : Base} {bs : List Base} {os : List Came} (answers : List (List ℕ)) (g : Given) (l′ : Lent)
+      → Gives s lengths r b (lent c answers) g l′ → Unheeded g → Calls s lengths (g .run) (l′ .cells) bs os v d
+      → Calls s lengths r c bs os v d
 
 -- the job that a run was begun with: the lent columns' rows, and the chromosomes' lengths
 abbrev pub jobOf : Plan → List ℕ → Job
@@ -56,7 +57,9 @@ jobOf p lengths = record { lengths = lengthsOf lengths; streams = streamsOf (p .
 pub record Runs (p : Plan) (lengths : List ℕ) (bs : List Base) (os : List Came) : Type 0 where
   pub begun : startOf p .begins ≡ Begun
   pub cells : Cells
-  pub calls : Calls (p .cols) lengths (startOf p .run) cells bs os
+  pub last : Run
+  pub left : Cells
+  pub calls : Calls (p .cols) lengths (startOf p .run) cells bs os last left
 
 -- ---- what came out
 
@@ -86,6 +89,17 @@ offerIn (answer.Ended e) = Nothing
 abbrev pub rowsIn : Came → List (List ℕ)
 rowsIn o = take (countIn (o .answer)) (o .after)
 
+-- those of several calls, one behind the other
+abbrev pub allRows : List Came → List (List ℕ)
+allRows [] = []
+allRows (o ∷ os) = rowsIn o ++ allRows os
+
+-- what the last of several calls offered
+abbrev pub lastOffer : List Came → Offer
+lastOffer [] = Nothing
+lastOffer (o ∷ []) = offerIn (o .answer)
+lastOffer (o ∷ u ∷ os) = lastOffer (u ∷ os)
+
 -- two calls gave the same: the answer, its numbers and offer among it, and the rows
 pub record Same (o u : Came) : Type 0 where
   pub answer : o .answer ≡ u .answer
@@ -104,14 +118,3 @@ pub record SizedAs (r u : Run) : Type 0 where
   pub room : u .settings .room ≡ r .settings .room
   pub from : u .from ≡ r .from
   pub to : u .to ≡ r .to
-
--- the run that the last of the calls gives back, and its queue's memory as that call left it
-abbrev pub lastRun : {s : Cols} {lengths : List ℕ} {r : Run} {c : Cells} {bs : List Base} {os : List Came} → Calls s lengths r c bs os → Run
-lastRun (none {r = r}) = r
-lastRun (call answers g l′ gives heeded k) = lastRun k
-lastRun (unheeded answers g l′ gives u k) = lastRun k
-
-abbrev pub lastCells : {s : Cols} {lengths : List ℕ} {r : Run} {c : Cells} {bs : List Base} {os : List Came} → Calls s lengths r c bs os → Cells
-lastCells (none {c = c}) = c
-lastCells (call answers g l′ gives heeded k) = lastCells k
-lastCells (unheeded answers g l′ gives u k) = lastCells k

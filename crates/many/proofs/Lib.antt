@@ -2,3 +2,4 @@
 pub mod Parts
 pub mod Passing
 pub mod Whole
+pub mod Chains
