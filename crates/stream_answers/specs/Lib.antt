@@ -1,0 +1,2 @@
+-- One stream's answer to a base.
+pub mod Answer
