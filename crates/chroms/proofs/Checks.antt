@@ -12,7 +12,7 @@ use Rattle.fields.specs.Names.{part, within, names, numberIn}
 use Rattle.fields.proofs.Both.{and-no}
 use Rattle.fields.proofs.Scan.{rest-none}
 use Rattle.fields.proofs.Naming.{within-even, within-from, within-low, within-high, names-cons, names-length, part-length}
-use Rattle.chroms.specs.Check.{counted, named, absent, allNamed, fineAt, checkOf, foundOf}
+use Rattle.chroms.specs.Check.{counted, named, absent, allNamed, fineAt, checkOf, foundOf, lookupNumber}
 use Rattle.chroms.specs.declared.Check.the-variants.{Fine, Sizes, Names}
 use Rattle.chroms.specs.declared.Lookup.the-variants.{Number, Refused}
 
@@ -99,3 +99,12 @@ module _ (text from to : List ℕ) where
   pub found-refused : (name : List ℕ) → within (length text) from to ≡ false → foundOf text from to name ≡ Refused
   unfolding foundOf
   found-refused name e = rw e
+
+-- a lookup is refused by 1 exactly where the list names what is not in its text
+pub lookup-number : (text from to name : List ℕ) → lookupNumber (foundOf text from to name) ≡ cond (within (length text) from to) 0 1
+unfolding foundOf
+lookup-number text from to name = go (within (length text) from to) (numberIn (names text from to) name)
+  where
+    go : (c : Bool) (n : ℕ) → lookupNumber (cond c (Number n) Refused) ≡ cond c 0 1
+    go true n = refl
+    go false n = refl

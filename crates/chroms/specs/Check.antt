@@ -49,3 +49,8 @@ checkNumber Names = 2
 -- the number of a name in list order, or the one after the last; 1 for columns that name what is not in the text
 unfoldable pub foundOf : List ℕ → List ℕ → List ℕ → List ℕ → Lookup
 foundOf text from to name = cond (within (length text) from to) (Number (numberIn (names text from to) name)) Refused
+
+-- the refusal number of an answer, 0 for none
+abbrev pub lookupNumber : Lookup → ℕ
+lookupNumber (Number k) = 0
+lookupNumber Refused = 1

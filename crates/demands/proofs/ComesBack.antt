@@ -19,7 +19,9 @@ use Rattle.rules.specs.declared.End.{End}
 use Rattle.rules.specs.declared.Stage.{Stage}
 use Rattle.rules.specs.declared.Stage.the-variants.{Fresh, After, Over}
 use Rattle.rules.specs.Rows.{Record}
-use Rattle.rules.specs.Call.{Reply, found, refused, ended, byStage, give}
+use Rattle.rules.specs.Call.{Reply, found, refused, ended, refuse, byStage, give}
+use Rattle.rules.specs.Call as rules
+use Rattle.rules.specs.declared.Refusal.the-variants.{Sizes}
 use Rattle.theory.proofs.MergeLaws.{Each}
 use Rattle.heads.specs.View.{Heads}
 use Rattle.heads.specs.View.{Cols, rowAt, behindAt, headAt, restAt, restsOf, freshOf}
@@ -44,6 +46,7 @@ use Rattle.runs.specs.Start.{Plan, runFrom, startOf, Lends}
 use Rattle.runs.proofs.ViewLaws.{eight-at}
 use Rattle.runs.proofs.MarkLaws.{stage-back}
 use Rattle.runs.proofs.StartLaws.{begun-right}
+use Rattle.demands.proofs.RowsLaws.{give-wrong}
 use Rattle.demands.specs.Calls.{Unheeded, Came, Calls, none, call, unheeded, Runs, Blameless, SizedAs}
 use Rattle.demands.proofs.KeptLaws.{each-all, Holds, give-holds}
 use Rattle.demands.proofs.RangedLaws.{Ranged, drawn-ranged}
@@ -140,6 +143,19 @@ found-going s lengths r b l = go (stageOf r)
     go Fresh z = tt
     go (After p) z = tt
     go (Over e) z = z
+
+-- and only where 1 is not due
+pub found-right : (s : Cols) (lengths : List ℕ) (r : Run) (b : Base) (l : Lent) → Found (givenOf s lengths r b l .reply) → rightOf s lengths r l ≡ true
+found-right s lengths r b l z = go (rightOf s lengths r l) refl
+  where
+    go : (u : Bool) → rightOf s lengths r l ≡ u → rightOf s lengths r l ≡ true
+    go true e = e
+    go false e =
+        let R = runOf s (l .cells) r in
+        let is : givenOf s lengths r b l ≡ refuse R Sizes =
+        ap (λ (u : Bool). give (lengthsOf lengths) (r .settings .room) (record { right = u; rows = length (l .answers) }) R b) e
+        ∙ give-wrong (lengthsOf lengths) (r .settings .room) (length (l .answers)) R b (λ f i. subst Going i (found-going s lengths r b l z)) in
+        absurd (subst (λ (x : rules.Given). Found (x .reply)) is z)
 
 module _ (s : Cols) (lengths : List ℕ) (r : Run) (b : Base) (l : Lent) (g : Given) (l′ : Lent) (gives : Gives s lengths r b l g l′) (ok : Blameless s lengths r (l .cells)) (whole : Whole r) where
   -- the run fits with good answer rows, whatever rows this call lends

@@ -23,6 +23,7 @@ use Rattle.rules.specs.Numbers.{numberOf}
 use Rattle.rules.specs.Start.{within, refusesStart}
 use Rattle.rules.specs.Call.{Reply, refused, refuse, give}
 use Rattle.heads.specs.View.{Heads, Cols}
+use Rattle.heads.specs.Move.{Shaped}
 use Rattle.queue.specs.declared.Ring.{Ring}
 use Rattle.admit.specs.Right.{measured}
 use Rattle.admit.proofs.RightLaws.{right-off}
@@ -36,6 +37,8 @@ use Rattle.runs.specs.Comes.{lensOf, rightOf, givenOf}
 use Rattle.step.specs.Settle.{runBy}
 use Rattle.step.specs.Give.{openedBy, Gives}
 use Rattle.many.specs.declared.Passed.{Passed}
+use Rattle.many.specs.Alike.{AllAlike}
+use Rattle.many.proofs.Alikes.{all-alike}
 use Rattle.many.specs.Many.{baseAt, Unfound, Even, unevenBy}
 use Rattle.demands.proofs.OneResult.{Alike, one-result}
 use Rattle.sweep.proofs.Single.{single-found, single-last, single-other, single-none}
@@ -119,6 +122,22 @@ module _ (s : Cols) (lengths : List ℕ) (r : Run) (b : Base) (l : Lent) (a : Sw
   pub one-run : (u : Swept) (k : Run) (m : Lent) → GivesAlone s lengths r b l u k m
       → Alike (givenOf s lengths r b l .reply) (record { run = r′; answer = answered s lengths r b l }) l′ (record { run = k; answer = answered s lengths r b l }) m
   one-run u k m f = one-result s lengths r b l (record { run = r′; answer = answered s lengths r b l }) l′ (record { run = k; answer = answered s lengths r b l }) m (g .gives) (f .gives)
+
+-- ---- "any two results allowed by a statement are equal": what is told of many bases, the counts and the answer rows
+
+module _ {s : Cols} {lengths : List ℕ} {t : Cols} {r : Run} {l : Lent} {ns : List ℕ} {a b : Swept} {r′ k : Run} {l′ m : Lent} {ns′ ms : List ℕ} (shaped : Shaped (headsOf r)) (even : Even t ns)
+    (g : GivesInPlace s lengths t r l ns a r′ l′ ns′) (f : GivesInPlace s lengths t r l ns b k m ms) where
+  alike : AllAlike s (g .passed) l′ ns′ (f .passed) m ms
+  alike = all-alike s lengths t r l ns shaped even (g .gives) (f .gives)
+
+  same-swept : sweptOf (g .passed) ≡ sweptOf (f .passed)
+  same-swept = rw (alike .bases, alike .records, alike .offer, alike .last)
+
+  pub one-swept : a ≡ b
+  one-swept = g .told ∙ same-swept ∙ sym (f .told)
+
+  pub one-left : (ns′ ≡ ms) × (l′ .answers ≡ m .answers)
+  one-left = (alike .counts, alike .answers)
 
 -- ---- bases in columns that differ in length
 

@@ -3,3 +3,4 @@ pub mod Parts
 pub mod Passing
 pub mod Whole
 pub mod Chains
+pub mod Alikes
