@@ -90,6 +90,8 @@ pub calls-skips : (p : Plan) (lengths : List ℕ) (l : List (Mark Base)) (os us 
 calls-skips p lengths l os us k m ok fit legal =
     let few = run-answers p lengths (given l) os k in
     let all = run-answers p lengths (every l) us m in
-    let z = demand3 .skips (jobOf p lengths) ok l fit (ap (lawful Nothing l) (sym (shown-offers few)) ∙ legal) in
-    (pairs-both {R = λ r s. r ≡ s} (λ x y o u e a b. shown-same a (subst (λ (t : Reply). Shows t u) (sym e) b)) (pairs-same (λ r. refl) (answers (jobOf p lengths) (given l))) few
-    (subst (λ (t : List Reply). Pairs Shows t (heard l us)) (sym (z .0)) (heard-shown l all)), z .1)
+    let z = demand3 .skips (jobOf p lengths) ok l fit (ap (lawful Nothing l) (sym (shown-offers few)) ∙ legal) in (
+      pairs-both {R = λ r s. r ≡ s} (λ x y o u e a b. shown-same a (subst (λ (t : Reply). Shows t u) (sym e) b)) (pairs-same (λ r. refl) (answers (jobOf p lengths) (given l))) few
+          (subst (λ (t : List Reply). Pairs Shows t (heard l us)) (sym (z .0)) (heard-shown l all)),
+      z .1,
+    )

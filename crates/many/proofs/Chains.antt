@@ -66,7 +66,6 @@ module _ (s : Cols) (lengths : List ℕ) (t : Cols) (r : Run) (l : Lent) (ns : L
       let zero-plus : 0 + k ≡ k = omega arith in
       let bases : build (baseAt t) k 0 ++ (baseAt t k ∷ []) ≡ build (baseAt t) (k + 1) 0 =
       sym (ap (λ (x : ℕ). build (baseAt t) x 0) n ∙ build-snoc (baseAt t) k 0 ∙ ap (λ (x : ℕ). build (baseAt t) k 0 ++ (baseAt t x ∷ [])) zero-plus) in
-
       record {
         os = y .os ++ c ∷ [];
         calls = subst (λ (x : List Base). Calls s lengths r (l .cells) x (y .os ++ c ∷ []) r₂ (l₂ .cells)) bases

@@ -1,5 +1,5 @@
 -- "With room enough and valid streams, each accepted base gets exactly the records of its chromosome with start < base stop and stop > base
--- start, once each, in the merged order of 01." And with it: "The offer is made exactly pre 01 says."
+-- start, once each, in the merged order of 01." And with it: "The offer is made exactly as 01 says."
 use mathlib.Core.Path.{_≡_, refl, sym, ap, _∙_}
 use mathlib.Core.Bool.{Bool, true, false, cond}
 use mathlib.Core.Option.{Option, none, some}
