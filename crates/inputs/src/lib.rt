@@ -2,6 +2,7 @@
 // The functions here are called by the proved listing alone.
 use chroms::Check;
 use fields::Reading;
+use rules::Settings;
 ghost use mathlib.Core.Path.{_≡_};
 ghost use mathlib.Core.Bool.{true};
 ghost use Prim.Native.Nat.{_+_, _*_, _≤_};
@@ -107,7 +108,7 @@ fn is_sized(n: usize, ends: &[usize]) -> bool
     ensures { λ r. ⌜ r ≡ sizedBy n (now (ends .entry)) ⌝ }
 {
     let texts = ends.len();
-    let few = (3 <= texts) & (texts <= 10);
+    let few = (3 <= texts) & (texts <= Settings::STREAMS + 2);
     let parted = parts_all(n, ends);
     (n <= 65536) & (few & parted)
 }

@@ -1,4 +1,5 @@
 // The files that the arguments name, read to one buffer.
+use rules::Settings;
 ghost use mathlib.Core.Path.{_≡_};
 ghost use Prim.Native.Nat.{_≤_};
 ghost use lib.ListN.{length};
@@ -66,7 +67,7 @@ fn read_named(word: usize, bytes: &mut [u8], from: usize) -> Got
     got
 }
 
-// Reads the files that the first so many arguments name to the buffer, one behind the other, and tells where each ends. Of more than ten
+// Reads the files that the first so many arguments name to the buffer, one behind the other, and tells where each ends. Of more than there may be
 // none is read, and none behind a full buffer: both are 1.
 pub fn read_files(texts: usize, bytes: &mut [u8], ends: &mut [usize]) -> Got
     requires { ⌜ texts ≤ length (now ends) ⌝ }
@@ -74,7 +75,7 @@ pub fn read_files(texts: usize, bytes: &mut [u8], ends: &mut [usize]) -> Got
 {
     let mut at: usize = 0;
     let mut k: usize = 0;
-    if 10 < texts {
+    if Settings::STREAMS + 2 < texts {
         return Got {
             end: at,
             good: true,

@@ -16,6 +16,9 @@ Inv-loop texts bytes₀ ends₀ at₀ k₀ bytes ends at k =
 abbrev μ-loop : tie.MeasureT-loop
 μ-loop texts bytes₀ ends₀ at₀ k₀ bytes ends at k = texts - k
 
+add-if1 : tie.Need-add-if1 Inv-loop μ-loop
+add-if1 c = search needs
+
 returns : tie.Need-returns Inv-loop μ-loop
 returns c = search needs
 
@@ -76,6 +79,7 @@ read-files-spec =
     (tie.spec
     Inv-loop
     μ-loop
+    add-if1
     returns
     loop-holds
     add-read-named
