@@ -10,36 +10,36 @@ use lib.ListN.{length, get_or, length-map}
 use borrow.Author.Tests.{eqb-true, lt-ltb, le-ltb, le-leb, lt-leb}
 use Rattle.rules.specs.declared.Base.{Base}
 use Rattle.rules.specs.declared.Refusal.TheVariants.{Beyond, Unlisted, Unordered, Reversed}
-use Rattle.rules.specs.Bases.{beyond, inOrder, judge}
+use Rattle.rules.specs.Bases.{beyond, in_order, judge}
 use Rattle.admit.specs.declared.Gate.TheVariants.{Open, Shut}
-use Rattle.admit.specs.Gates.{known, lengthsOf, judgedOf}
+use Rattle.admit.specs.Gates.{known, lengths_of, judged_of}
 
 -- no stop of 64 bits lies beyond the largest number
-beyond-known : (x stop : ℕ) → stop ≤ 18446744073709551615 → beyond (known x) stop ≡ ltb x stop
-beyond-known x stop h = go (eqb x 18446744073709551615) refl
+beyond_known : (x stop : ℕ) → stop ≤ 18446744073709551615 → beyond (known x) stop ≡ ltb x stop
+beyond_known x stop h = go (eqb x 18446744073709551615) refl
   where
     go : (t : Bool) → eqb x 18446744073709551615 ≡ t → beyond (cond t none (some x)) stop ≡ ltb x stop
     go true e = rw (le-ltb x stop (omega (arith, eqb-true x 18446744073709551615 e)))
     go false e = refl
 
-known_at : (ls : List ℕ) (k : ℕ) → k < length ls → get_or (lengthsOf ls) k none ≡ known (get_or ls k 0)
+known_at : (ls : List ℕ) (k : ℕ) → k < length ls → get_or (lengths_of ls) k none ≡ known (get_or ls k 0)
 known_at [] k h = absurd (omega arith)
 known_at (x ∷ ls) zero h = refl
 known_at (x ∷ ls) (suc k) h = known_at ls k (omega arith)
 
 module _ (ls : List ℕ) (last : Option Base) (b : Base) where
-  pub judge-unlisted : length ls ≤ b.chrom.0 → Shut Unlisted ≡ judgedOf (judge (lengthsOf ls) last b)
+  pub judge_unlisted : length ls ≤ b.chrom.0 → Shut Unlisted ≡ judged_of (judge (lengths_of ls) last b)
   unfolding judge
-  judge-unlisted h = rw (length-map ls known, le-leb (length ls) b.chrom.0 h)
+  judge_unlisted h = rw (length-map ls known, le-leb (length ls) b.chrom.0 h)
 
   module _ (here : b.chrom.0 < length ls) where
-    pub judge-reversed : b.stop < b.start → Shut Reversed ≡ judgedOf (judge (lengthsOf ls) last b)
+    pub judge_reversed : b.stop < b.start → Shut Reversed ≡ judged_of (judge (lengths_of ls) last b)
     unfolding judge
-    judge-reversed h = rw (length-map ls known, lt-leb (length ls) b.chrom.0 here, lt-ltb b.stop b.start h)
+    judge_reversed h = rw (length-map ls known, lt-leb (length ls) b.chrom.0 here, lt-ltb b.stop b.start h)
 
     -- the length that stands at `at`
     module _ (fore : b.start ≤ b.stop) (fits : b.stop ≤ 18446744073709551615) (at : ℕ) (its : at ≡ b.chrom.0) where
-      onward : judge (lengthsOf ls) last b ≡ cond (ltb (get_or ls at 0) b.stop) (some Beyond) (cond (inOrder last b) none (some Unordered))
+      onward : judge (lengths_of ls) last b ≡ cond (ltb (get_or ls at 0) b.stop) (some Beyond) (cond (in_order last b) none (some Unordered))
       unfolding judge
       onward =
           rw (
@@ -48,15 +48,15 @@ module _ (ls : List ℕ) (last : Option Base) (b : Base) where
             lt-leb (length ls) b.chrom.0 here,
             le-ltb b.stop b.start fore,
             known_at ls b.chrom.0 here,
-            beyond-known (get_or ls b.chrom.0 0) b.stop fits,
+            beyond_known (get_or ls b.chrom.0 0) b.stop fits,
           )
 
-      pub judge-beyond : get_or ls at 0 < b.stop → Shut Beyond ≡ judgedOf (judge (lengthsOf ls) last b)
-      judge-beyond h = rw (onward, lt-ltb (get_or ls at 0) b.stop h)
+      pub judge_beyond : get_or ls at 0 < b.stop → Shut Beyond ≡ judged_of (judge (lengths_of ls) last b)
+      judge_beyond h = rw (onward, lt-ltb (get_or ls at 0) b.stop h)
 
-      module _ (near : b.stop ≤ get_or ls at 0) (r : Bool) (is : r ≡ inOrder last b) where
-        pub judge-unordered : r ≡ false → Shut Unordered ≡ judgedOf (judge (lengthsOf ls) last b)
-        judge-unordered e = rw (onward, le-ltb (get_or ls at 0) b.stop near, ← is, e)
+      module _ (near : b.stop ≤ get_or ls at 0) (r : Bool) (is : r ≡ in_order last b) where
+        pub judge_unordered : r ≡ false → Shut Unordered ≡ judged_of (judge (lengths_of ls) last b)
+        judge_unordered e = rw (onward, le-ltb (get_or ls at 0) b.stop near, ← is, e)
 
-        pub judge-open : r ≡ true → Open ≡ judgedOf (judge (lengthsOf ls) last b)
-        judge-open e = rw (onward, le-ltb (get_or ls at 0) b.stop near, ← is, e)
+        pub judge_open : r ≡ true → Open ≡ judged_of (judge (lengths_of ls) last b)
+        judge_open e = rw (onward, le-ltb (get_or ls at 0) b.stop near, ← is, e)

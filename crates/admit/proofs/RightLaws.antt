@@ -6,24 +6,24 @@ use Prim.Native.Nat.{ℕ, ◌-◌, ◌<◌, ◌≤◌}
 use native.Mathlib.Omega.{arith}
 use lib.ListN.{get_or}
 use Rattle.basics.specs.Lists.{Says, All}
-use Rattle.basics.proofs.SaysLaws.{says-true, says_same, says_map, says_is, says-le, says-lt, says_eq, says_then, says-and, says-or, says_all, says-upto}
+use Rattle.basics.proofs.SaysLaws.{says_true, says_same, says_map, says_is, says_le, says_lt, says_eq, says_then, says_and, says_or, says_all, says_upto}
 use Rattle.heads.specs.Move.{PlacedIn}
 use Rattle.queue.specs.declared.Ring.{Ring}
 use Rattle.queue.specs.Ring.{Cells, Sound, waiting}
 use Rattle.admit.specs.declared.Lens.{Lens}
-use Rattle.admit.specs.Right.{measured, placed, named, headsNamed, slotsNamed, right}
+use Rattle.admit.specs.Right.{measured, placed, named, heads_named, slots_named, right}
 use Rattle.admit.specs.Fits.{Told, Fits}
-use Rattle.least.specs.Fours.{ended?}
+use Rattle.least.specs.Fours.{is_ended}
 
 -- ---- a stream and a row that are named
 
-pub named-says : (n : ℕ) (from to : List ℕ) (s row : ℕ) → Says (named n from to s row) ((s < n) × (row < get_or to s 0 - get_or from s 0))
+pub named_says : (n : ℕ) (from to : List ℕ) (s row : ℕ) → Says (named n from to s row) ((s < n) × (row < get_or to s 0 - get_or from s 0))
 unfolding named
-named-says n from to s row = says-and (says-lt s n) (says-lt row (get_or to s 0 - get_or from s 0))
+named_says n from to s row = says_and (says_lt s n) (says_lt row (get_or to s 0 - get_or from s 0))
 
 -- the row that stands at place p of the columns, among those of stream s
-pub named-place : (n : ℕ) (from to : List ℕ) (s p : ℕ) → s < n → get_or from s 0 ≤ p → p < get_or to s 0 → named n from to s (p - get_or from s 0) ≡ true
-named-place n from to s p h low high = says-true (named-says n from to s (p - get_or from s 0)) (h, omega arith)
+pub named_place : (n : ℕ) (from to : List ℕ) (s p : ℕ) → s < n → get_or from s 0 ≤ p → p < get_or to s 0 → named n from to s (p - get_or from s 0) ≡ true
+named_place n from to s p h low high = says_true (named_says n from to s (p - get_or from s 0)) (h, omega arith)
 
 -- ---- sizes and lengths
 
@@ -39,9 +39,9 @@ pub record Measured (l : Lens) (streams chroms : ℕ) (q : Ring) : Type 0 where
   pub slots : l.queue ≡ q.room
   pub answer : q.room ≤ l.answers
 
-pub measured-says : (l : Lens) (streams chroms : ℕ) (q : Ring) → Says (measured l streams chroms q) (Measured l streams chroms q)
+pub measured_says : (l : Lens) (streams chroms : ℕ) (q : Ring) → Says (measured l streams chroms q) (Measured l streams chroms q)
 unfolding measured
-measured-says l streams chroms q =
+measured_says l streams chroms q =
     says_map
     (λ h. record {
       some = h.0.0.0;
@@ -63,50 +63,50 @@ measured-says l streams chroms q =
         ((m.slots, m.answer), (m.sound.inside, m.sound.fits)),
       ),
     ))
-    (says-and
-    (says-and (says-and (says-le _ _) (says-le _ _)) (says-and (says-and (says-le _ _) (says-le _ _)) (says-and (says-le _ _) (says-le _ _))))
-    (says-and
-    (says-and (says_eq _ _) (says-and (says_eq _ _) (says_eq _ _)))
-    (says-and (says-and (says_eq _ _) (says-le _ _)) (says-and (says-lt _ _) (says-le _ _)))))
+    (says_and
+    (says_and (says_and (says_le _ _) (says_le _ _)) (says_and (says_and (says_le _ _) (says_le _ _)) (says_and (says_le _ _) (says_le _ _))))
+    (says_and
+    (says_and (says_eq _ _) (says_and (says_eq _ _) (says_eq _ _)))
+    (says_and (says_and (says_eq _ _) (says_le _ _)) (says_and (says_lt _ _) (says_le _ _)))))
 
 -- ---- what the run and its queue name
 
-pub placed-says : {lc la le n : ℕ} (next from to : List ℕ) → n ≤ 8 → la ≡ lc → le ≡ lc → Says (placed lc n next from to) (PlacedIn lc la le n next from to)
+pub placed_says : {lc la le n : ℕ} (next from to : List ℕ) → n ≤ 8 → la ≡ lc → le ≡ lc → Says (placed lc n next from to) (PlacedIn lc la le n next from to)
 unfolding placed
-placed-says {lc} {n} next from to few starts stops =
+placed_says {lc} {n} next from to few starts stops =
     says_map
     (λ h. record { few = few; starts = starts; stops = stops; low = λ k b. (h k b).0; high = λ k b. (h k b).1 })
     (λ p k b. (p.low k b, p.high k b))
-    (says-upto (λ k. says-and (says-le (get_or from k 0) (get_or next k 0)) (says-le (get_or to k 0) lc)) n)
+    (says_upto (λ k. says_and (says_le (get_or from k 0) (get_or next k 0)) (says_le (get_or to k 0) lc)) n)
 
-heads-say : (n : ℕ) (ended : List ℕ) (row from to : List ℕ) →
-    Says (headsNamed n ended row from to) ((k : ℕ) → k < n → ended? (get_or ended k 0) ≡ false → named n from to k (get_or row k 0) ≡ true)
-unfolding headsNamed
-heads-say n ended row from to = says-upto (λ k. says-or (ended? (get_or ended k 0)) (says_is (named n from to k (get_or row k 0)))) n
+heads_say : (n : ℕ) (ended : List ℕ) (row from to : List ℕ) →
+    Says (heads_named n ended row from to) ((k : ℕ) → k < n → is_ended (get_or ended k 0) ≡ false → named n from to k (get_or row k 0) ≡ true)
+unfolding heads_named
+heads_say n ended row from to = says_upto (λ k. says_or (is_ended (get_or ended k 0)) (says_is (named n from to k (get_or row k 0)))) n
 
-slots-say : (n : ℕ) (from to : List ℕ) (q : Ring) (c : Cells) → Says (slotsNamed n from to q c) (All (λ r. named n from to r.stream.0 r.row ≡ true) (waiting q c))
-unfolding slotsNamed
-slots-say n from to q c = says_all (λ r. says_is (named n from to r.stream.0 r.row)) (waiting q c)
+slots_say : (n : ℕ) (from to : List ℕ) (q : Ring) (c : Cells) → Says (slots_named n from to q c) (All (λ r. named n from to r.stream.0 r.row ≡ true) (waiting q c))
+unfolding slots_named
+slots_say n from to q c = says_all (λ r. says_is (named n from to r.stream.0 r.row)) (waiting q c)
 
 -- ---- all of it
 
 module _ (l : Lens) (streams chroms : ℕ) (q : Ring) (ended : List ℕ) (row next from to : List ℕ) (c : Cells) where
   -- the test's parts, as the code goes through them; p is what is said of the streams' places
-  pub right-off : measured l streams chroms q ≡ false → right l streams chroms q ended row next from to c ≡ false
+  pub right_off : measured l streams chroms q ≡ false → right l streams chroms q ended row next from to c ≡ false
   unfolding right
-  right-off e = rw e
+  right_off e = rw e
 
-  pub right-on : measured l streams chroms q ≡ true → (p : Bool) → Says p (PlacedIn l.chrom l.start l.stop streams next from to) →
-      right l streams chroms q ended row next from to c ≡ p && (headsNamed streams ended row from to && slotsNamed streams from to q c)
+  pub right_on : measured l streams chroms q ≡ true → (p : Bool) → Says p (PlacedIn l.chrom l.start l.stop streams next from to) →
+      right l streams chroms q ended row next from to c ≡ p && (heads_named streams ended row from to && slots_named streams from to q c)
   unfolding right
-  right-on e p s =
-      let m = (measured-says l streams chroms q).yes e in
-      rw (e, says_same (placed-says next from to m.few m.starts m.stops) s)
+  right_on e p s =
+      let m = (measured_says l streams chroms q).yes e in
+      rw (e, says_same (placed_says next from to m.few m.starts m.stops) s)
 
   -- 1 is not due exactly where all fits
-  pub right-says : Told l c → Says (right l streams chroms q ended row next from to c) (Fits l streams chroms q ended row next from to c)
+  pub right_says : Told l c → Says (right l streams chroms q ended row next from to c) (Fits l streams chroms q ended row next from to c)
   unfolding right
-  right-says t =
+  right_says t =
       says_map
       (λ h.
       let m = h.0 in
@@ -136,11 +136,11 @@ module _ (l : Lens) (streams chroms : ℕ) (q : Ring) (ended : List ℕ) (row ne
         answer = f.answer;
       } in
       (m, (f.placed, (f.heads, f.slots))))
-      (says_then (measured-says l streams chroms q)
-      (λ m. says-and (placed-says next from to m.few m.starts m.stops) (says-and (heads-say streams ended row from to) (slots-say streams from to q c))))
+      (says_then (measured_says l streams chroms q)
+      (λ m. says_and (placed_says next from to m.few m.starts m.stops) (says_and (heads_say streams ended row from to) (slots_say streams from to q c))))
 
-  pub right-fits : Told l c → right l streams chroms q ended row next from to c ≡ true → Fits l streams chroms q ended row next from to c
-  right-fits t e = (right-says t).yes e
+  pub right_fits : Told l c → right l streams chroms q ended row next from to c ≡ true → Fits l streams chroms q ended row next from to c
+  right_fits t e = (right_says t).yes e
 
-  pub fits-right : Told l c → Fits l streams chroms q ended row next from to c → right l streams chroms q ended row next from to c ≡ true
-  fits-right t f = says-true (right-says t) f
+  pub fits_right : Told l c → Fits l streams chroms q ended row next from to c → right l streams chroms q ended row next from to c ≡ true
+  fits_right t f = says_true (right_says t) f

@@ -6,7 +6,7 @@ use Rattle.queue.specs.declared.Ring.{Ring}
 use Rattle.queue.specs.Ring.{Cells, Fair, waiting}
 use Rattle.admit.specs.declared.Lens.{Lens}
 use Rattle.admit.specs.Right.{named}
-use Rattle.least.specs.Fours.{ended?}
+use Rattle.least.specs.Fours.{is_ended}
 
 -- the queue's memory has the length that l tells
 abbrev pub Told : Lens → Cells → Type 0
@@ -22,5 +22,5 @@ pub record Fits (l : Lens) (streams chroms : ℕ) (q : Ring) (ended : List ℕ) 
   pub fair : Fair q c
   pub answer : q.room ≤ l.answers
   pub placed : PlacedIn l.chrom l.start l.stop streams next from to
-  pub heads : (k : ℕ) → k < streams → ended? (get_or ended k 0) ≡ false → named streams from to k (get_or row k 0) ≡ true
+  pub heads : (k : ℕ) → k < streams → is_ended (get_or ended k 0) ≡ false → named streams from to k (get_or row k 0) ≡ true
   pub slots : All (λ r. named streams from to r.stream.0 r.row ≡ true) (waiting q c)

@@ -13,8 +13,8 @@ use Rattle.admit.specs.declared.Gate.TheVariants.{Open, Shut}
 abbrev pub known : ℕ → Option ℕ
 known x = cond (eqb x 18446744073709551615) none (some x)
 
-abbrev pub lengthsOf : List ℕ → List (Option ℕ)
-lengthsOf ls = map known ls
+abbrev pub lengths_of : List ℕ → List (Option ℕ)
+lengths_of ls = map known ls
 
 -- "the last accepted base", where there is one
 abbrev pub last_of : Stage → Option Base
@@ -23,11 +23,11 @@ last_of (After p) = some p
 last_of (Over e) = none
 
 -- what the rules judge: the refusal that is due, if any
-abbrev pub judgedOf : Option Refusal → Gate
-judgedOf none = Open
-judgedOf (some x) = Shut x
+abbrev pub judged_of : Option Refusal → Gate
+judged_of none = Open
+judged_of (some x) = Shut x
 
 -- "then 1, then 4, 6, 3, 5"
-abbrev pub gateOf : Bool → Option Refusal → Gate
-gateOf false o = Shut Sizes
-gateOf true o = judgedOf o
+abbrev pub gate_of : Bool → Option Refusal → Gate
+gate_of false o = Shut Sizes
+gate_of true o = judged_of o

@@ -3,7 +3,7 @@ use Rattle.std.specs.Prelude.{Bool, false, ◌&&◌, ◌||◌, List, ℕ, ◌-�
 use Rattle.basics.specs.Build.{upto}
 use Rattle.basics.specs.Lists.{all}
 use Rattle.rules.specs.Start.{sized}
-use Rattle.least.specs.Fours.{ended?}
+use Rattle.least.specs.Fours.{is_ended}
 use Rattle.queue.specs.declared.Ring.{Ring}
 use Rattle.queue.specs.Ring.{Cells, waiting}
 use Rattle.admit.specs.declared.Lens.{Lens}
@@ -41,15 +41,15 @@ unfoldable pub named : ℕ → List ℕ → List ℕ → ℕ → ℕ → Bool
 named n from to s row = ltb s n && ltb row (get_or to s 0 - get_or from s 0)
 
 -- "a run [..] names": by the head of each stream that has not ended
-abbrev pub headNamed : ℕ → List ℕ → List ℕ → List ℕ → List ℕ → ℕ → Bool
-headNamed n ended row from to k = ended? (get_or ended k 0) || named n from to k (get_or row k 0)
+abbrev pub head_named : ℕ → List ℕ → List ℕ → List ℕ → List ℕ → ℕ → Bool
+head_named n ended row from to k = is_ended (get_or ended k 0) || named n from to k (get_or row k 0)
 
-unfoldable pub headsNamed : ℕ → List ℕ → List ℕ → List ℕ → List ℕ → Bool
-headsNamed n ended row from to = all (headNamed n ended row from to) (upto n)
+unfoldable pub heads_named : ℕ → List ℕ → List ℕ → List ℕ → List ℕ → Bool
+heads_named n ended row from to = all (head_named n ended row from to) (upto n)
 
 -- "or its queue names": by each record that waits
-unfoldable pub slotsNamed : ℕ → List ℕ → List ℕ → Ring → Cells → Bool
-slotsNamed n from to q c = all (λ r. named n from to r.stream.0 r.row) (waiting q c)
+unfoldable pub slots_named : ℕ → List ℕ → List ℕ → Ring → Cells → Bool
+slots_named n from to q c = all (λ r. named n from to r.stream.0 r.row) (waiting q c)
 
 -- ---- all of it
 
@@ -59,5 +59,5 @@ unfoldable pub right : Lens → ℕ → ℕ → Ring → List ℕ → List ℕ �
 right l streams chroms q ended row next from to c =
     measured l streams chroms q
     && (placed l.chrom streams next from to
-    && (headsNamed streams ended row from to
-    && slotsNamed streams from to q c))
+    && (heads_named streams ended row from to
+    && slots_named streams from to q c))

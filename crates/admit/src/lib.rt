@@ -1,10 +1,10 @@
 // Whether a base is let in to a run that goes on: refusal 1 (`is_right`), then 4, 6, 3, 5 (`judge`). There are tests only, and nothing is written.
 ghost use Rattle.std.specs.Prelude.{◌≡◌, ◌||◌, ℕ, ◌-◌, ◌≤◌, ltb, length};
-ghost use Rattle.rules.specs.Bases.{notBefore, inOrder, judge};
-ghost use Rattle.least.specs.Fours.{ended?};
+ghost use Rattle.rules.specs.Bases.{not_before, in_order, judge};
+ghost use Rattle.least.specs.Fours.{is_ended};
 ghost use Rattle.queue.specs.Ring.{Fair};
-ghost use Rattle.admit.specs.Right.{measured, named, headsNamed, slotsNamed, right};
-ghost use Rattle.admit.specs.Gates.{lengthsOf, last_of, judgedOf};
+ghost use Rattle.admit.specs.Right.{measured, named, heads_named, slots_named, right};
+ghost use Rattle.admit.specs.Gates.{lengths_of, last_of, judged_of};
 
 use queue::Ring;
 use rules::{Base, Refusal, Settings, Stage};
@@ -55,7 +55,7 @@ fn is_row(from: usize, to: usize, row: u64) -> bool
 
 // Whether a head names a row of its stream, or its stream has ended.
 fn head_named(mark: u64, from: usize, to: usize, row: u64) -> bool
-    ensures { result ≡ ended? mark || ltb row (to - from) }
+    ensures { result ≡ is_ended mark || ltb row (to - from) }
 {
     if least::has_ended(mark) {
         return true;
@@ -72,7 +72,7 @@ fn heads_named<'a>(
     to: &'a [usize; 8],
 ) -> bool
     requires { streams ≤ 8 }
-    ensures { result ≡ headsNamed streams ended.now row.now from.now to.now }
+    ensures { result ≡ heads_named streams ended.now row.now from.now to.now }
 {
     let mut k: usize = 0;
     while k < streams {
@@ -111,7 +111,7 @@ fn slots_named<'a>(
     queue: &[[u64; 4]],
 ) -> bool
     requires { Fair ring queue.now × (streams ≤ 8) }
-    ensures { result ≡ slotsNamed streams from.now to.now ring queue.now }
+    ensures { result ≡ slots_named streams from.now to.now ring queue.now }
 {
     let head = ring.head;
     let len = ring.len;
@@ -129,7 +129,7 @@ fn slots_named<'a>(
 
 // Whether a base is not before another, by chromosome, start and stop.
 fn is_ordered(p: Base, b: Base) -> bool
-    ensures { result ≡ notBefore p b }
+    ensures { result ≡ not_before p b }
 {
     let last = p.chrom;
     let here = b.chrom;
@@ -150,7 +150,7 @@ fn is_ordered(p: Base, b: Base) -> bool
 
 // Whether a base is in order behind the last accepted one.
 fn follows(stage: Stage, b: Base) -> bool
-    ensures { result ≡ inOrder (last_of stage) b }
+    ensures { result ≡ in_order (last_of stage) b }
 {
     match stage {
         Stage::Fresh => true,
@@ -161,7 +161,7 @@ fn follows(stage: Stage, b: Base) -> bool
 
 // 4, 6, 3, 5, in this order.
 pub fn judge(lengths: &[u64], stage: Stage, b: Base) -> Gate
-    ensures { result ≡ judgedOf (judge (lengthsOf lengths.now) (last_of stage) b) }
+    ensures { result ≡ judged_of (judge (lengths_of lengths.now) (last_of stage) b) }
 {
     let c = b.chrom;
     if measures::number(lengths.len()) <= c.0 {

@@ -15,20 +15,20 @@ and_right false true h = h refl
 and_right false false h = refl
 
 -- the same test twice
-pub and-own : (u v : Bool) → v && (u && v) ≡ u && v
-and-own u true = refl
-and-own true false = refl
-and-own false false = refl
+pub and_own : (u v : Bool) → v && (u && v) ≡ u && v
+and_own u true = refl
+and_own true false = refl
+and_own false false = refl
 
-pub or-true : (u v : Bool) → v ≡ true → u || v ≡ true
-or-true true v h = refl
-or-true false v h = h
+pub or_true : (u v : Bool) → v ≡ true → u || v ≡ true
+or_true true v h = refl
+or_true false v h = h
 
-pub and-false : (u v : Bool) → u ≡ false → u && v ≡ false
-and-false u v e = rw e
+pub and_false : (u v : Bool) → u ≡ false → u && v ≡ false
+and_false u v e = rw e
 
-pub and-true : (u v : Bool) → u ≡ true → u && v ≡ v
-and-true u v e = rw e
+pub and_true : (u v : Bool) → u ≡ true → u && v ≡ v
+and_true u v e = rw e
 
 -- by cases, with the test's equation
 pub or_left : (u v : Bool) → u || v ≡ false → u ≡ false
@@ -51,14 +51,14 @@ iff {u = true} {v} f g = sym (f refl)
 iff {u = false} {v = true} f g = g refl
 iff {u = false} {v = false} f g = refl
 
-pub and-drop : (u v : Bool) → (u ≡ true → v ≡ false) → u && v ≡ false
-and-drop true v h = h refl
-and-drop false v h = refl
+pub and_drop : (u v : Bool) → (u ≡ true → v ≡ false) → u && v ≡ false
+and_drop true v h = h refl
+and_drop false v h = refl
 
 -- under a test, what holds where it passes
-pub and-cong : (u v w : Bool) → (w ≡ true → u ≡ v) → u && w ≡ v && w
-and-cong u v true h = rw (h refl)
-and-cong u v false h = and-drop u false (λ _. refl) ∙ sym (and-drop v false (λ _. refl))
+pub and_cong : (u v w : Bool) → (w ≡ true → u ≡ v) → u && w ≡ v && w
+and_cong u v true h = rw (h refl)
+and_cong u v false h = and_drop u false (λ _. refl) ∙ sym (and_drop v false (λ _. refl))
 
 pub and_both : (u v w : Bool) → (u ≡ true → v ≡ true → w ≡ true) → u && v ≡ true → u && w ≡ true
 and_both true v w h e = h refl e
@@ -68,18 +68,18 @@ pub and_left : (u v : Bool) → u && v ≡ true → u ≡ true
 and_left true v e = refl
 and_left false v e = e
 
-pub and-also : (u v : Bool) → u && v ≡ true → v ≡ true
-and-also true v e = e
-and-also false v e = clash e refl
+pub and_also : (u v : Bool) → u && v ≡ true → v ≡ true
+and_also true v e = e
+and_also false v e = clash e refl
 
-pub and-swap : (u v w : Bool) → u && (v && w) ≡ v && (u && w)
-and-swap true v w = refl
-and-swap false true w = refl
-and-swap false false w = refl
+pub and_swap : (u v w : Bool) → u && (v && w) ≡ v && (u && w)
+and_swap true v w = refl
+and_swap false true w = refl
+and_swap false false w = refl
 
-pub or-none : (u : Bool) → u || false ≡ u
-or-none true = refl
-or-none false = refl
+pub or_none : (u : Bool) → u || false ≡ u
+or_none true = refl
+or_none false = refl
 
 pub or_swap : (u v w : Bool) → u || (v || w) ≡ v || (u || w)
 or_swap true true w = refl
@@ -87,13 +87,13 @@ or_swap true false w = refl
 or_swap false v w = refl
 
 -- a weaker test first
-pub and-more : (t u v : Bool) → t && v ≡ true → (t || u) && v ≡ true
-and-more true u v e = e
-and-more false u v e = clash e refl
+pub and_more : (t u v : Bool) → t && v ≡ true → (t || u) && v ≡ true
+and_more true u v e = e
+and_more false u v e = clash e refl
 
 -- a test that passes, and one that fails
-pub says-yes : {P : Type 0} → P → Says true P
-says-yes p = record { yes = λ e. p; no = λ e. clash {u = true} refl e }
+pub says_yes : {P : Type 0} → P → Says true P
+says_yes p = record { yes = λ e. p; no = λ e. clash {u = true} refl e }
 
-pub says-no : {P : Type 0} → (P → ⊥) → Says false P
-says-no f = record { yes = λ e. clash e refl; no = λ e p. f p }
+pub says_no : {P : Type 0} → (P → ⊥) → Says false P
+says_no f = record { yes = λ e. clash e refl; no = λ e p. f p }

@@ -23,32 +23,32 @@ way a b = go (ltb a b) (eqb a b) refl refl
     go false false e f = high (omega (arith, ltb-false a b e, eqb-false a b f)) e f
 
 module _ (a b : ℕ) (t : Bool) where
-  pub lex-true : lex a b t ≡ true → Lex a b (t ≡ true)
-  lex-true h = go (way a b)
+  pub lex_true : lex a b t ≡ true → Lex a b (t ≡ true)
+  lex_true h = go (way a b)
     where
       go : Way a b (ltb a b) (eqb a b) → Lex a b (t ≡ true)
       go (low l _ _) = record { below = omega arith; tie = λ e. absurd (omega arith) }
       go (same q e f) = record { below = omega arith; tie = λ _. rw (e, f) at h }
       go (high _ e f) = clash {u = lex a b t} h (rw (e, f))
 
-  pub lex-pass : Lex a b (t ≡ true) → lex a b t ≡ true
-  lex-pass h = go (way a b)
+  pub lex_pass : Lex a b (t ≡ true) → lex a b t ≡ true
+  lex_pass h = go (way a b)
     where
       go : Way a b (ltb a b) (eqb a b) → lex a b t ≡ true
       go (low l e _) = rw e
       go (same q e f) = rw (e, f) (h.tie q)
       go (high l e f) = absurd (omega arith)
 
-  pub lex-false : lex a b t ≡ false → Lex b a (t ≡ false)
-  lex-false h = go (way a b)
+  pub lex_false : lex a b t ≡ false → Lex b a (t ≡ false)
+  lex_false h = go (way a b)
     where
       go : Way a b (ltb a b) (eqb a b) → Lex b a (t ≡ false)
       go (low l e _) = clash {u = lex a b t} (rw e) h
       go (same q e f) = record { below = omega arith; tie = λ _. rw (e, f) at h }
       go (high l e f) = record { below = omega arith; tie = λ q. absurd (omega arith) }
 
-  pub lex-fail : Lex b a (t ≡ false) → lex a b t ≡ false
-  lex-fail h = go (way a b)
+  pub lex_fail : Lex b a (t ≡ false) → lex a b t ≡ false
+  lex_fail h = go (way a b)
     where
       go : Way a b (ltb a b) (eqb a b) → lex a b t ≡ false
       go (low l e _) = absurd (omega arith)
@@ -56,48 +56,48 @@ module _ (a b : ℕ) (t : Bool) where
       go (high l e f) = rw (e, f)
 
   -- under the test that the numbers are equal
-  pub lex-on : (v : Bool) → lex a b t && (eqb a b && v) ≡ eqb a b && (t && v)
-  lex-on v = go (way a b)
+  pub lex_on : (v : Bool) → lex a b t && (eqb a b && v) ≡ eqb a b && (t && v)
+  lex_on v = go (way a b)
     where
       go : Way a b (ltb a b) (eqb a b) → lex a b t && (eqb a b && v) ≡ eqb a b && (t && v)
       go (low l e f) = rw (e, f)
       go (same q e f) = rw (e, f)
       go (high l e f) = rw (e, f)
 
-  pub lex-same : a ≡ b → lex a b t ≡ t
-  lex-same q = rw (le-ltb a b (omega arith), eq-eqb a b q)
+  pub lex_same : a ≡ b → lex a b t ≡ t
+  lex_same q = rw (le-ltb a b (omega arith), eq-eqb a b q)
 
-  pub lex-below : a < b → lex a b t ≡ true
-  lex-below h = lex-pass (record { below = omega arith; tie = λ q. absurd (omega arith) })
+  pub lex_below : a < b → lex a b t ≡ true
+  lex_below h = lex_pass (record { below = omega arith; tie = λ q. absurd (omega arith) })
 
-  pub lex-tie : b ≤ a → a ≤ b → lex a b t ≡ t
-  lex-tie h k = lex-same (omega arith)
+  pub lex_tie : b ≤ a → a ≤ b → lex a b t ≡ t
+  lex_tie h k = lex_same (omega arith)
 
-  pub lex-above : b < a → lex a b t ≡ false
-  lex-above h = lex-fail (record { below = omega arith; tie = λ q. absurd (omega arith) })
+  pub lex_above : b < a → lex a b t ≡ false
+  lex_above h = lex_fail (record { below = omega arith; tie = λ q. absurd (omega arith) })
 
 pub lex_map : {a b : ℕ} {P Q : Type 0} → (P → Q) → Lex a b P → Lex a b Q
 lex_map f h = record { below = h.below; tie = λ e. f (h.tie e) }
 
 -- the other way round
-pub lex-not : (a b : ℕ) (t : Bool) → lex a b (not t) ≡ not (lex b a t)
-lex-not a b t = go (lex b a t) refl
+pub lex_not : (a b : ℕ) (t : Bool) → lex a b (not t) ≡ not (lex b a t)
+lex_not a b t = go (lex b a t) refl
   where
     go : (u : Bool) → lex b a t ≡ u → lex a b (not t) ≡ not u
-    go true e = lex-fail a b (not t) (lex_map (λ f. rw f) (lex-true b a t e))
-    go false e = lex-pass a b (not t) (lex_map (λ f. rw f) (lex-false b a t e))
+    go true e = lex_fail a b (not t) (lex_map (λ f. rw f) (lex_true b a t e))
+    go false e = lex_pass a b (not t) (lex_map (λ f. rw f) (lex_false b a t e))
 
 -- where equal ones do not pass
-pub lex-off : (a b : ℕ) → lex a b false ≡ ltb a b
-lex-off a b = go (ltb a b) (eqb a b)
+pub lex_off : (a b : ℕ) → lex a b false ≡ ltb a b
+lex_off a b = go (ltb a b) (eqb a b)
   where
     go : (u v : Bool) → u || (v && false) ≡ u
     go true v = refl
     go false true = refl
     go false false = refl
 
-pub lex-refl : {P : Type 0} (a : ℕ) → P → Lex a a P
-lex-refl a p = record { below = omega arith; tie = λ _. p }
+pub lex_refl : {P : Type 0} (a : ℕ) → P → Lex a a P
+lex_refl a p = record { below = omega arith; tie = λ _. p }
 
-pub lex-trans : {a b c : ℕ} {P Q R : Type 0} → (P → Q → R) → Lex a b P → Lex b c Q → Lex a c R
-lex-trans f h k = record { below = omega arith; tie = λ e. f (h.tie (omega arith)) (k.tie (omega arith)) }
+pub lex_trans : {a b c : ℕ} {P Q R : Type 0} → (P → Q → R) → Lex a b P → Lex b c Q → Lex a c R
+lex_trans f h k = record { below = omega arith; tie = λ e. f (h.tie (omega arith)) (k.tie (omega arith)) }

@@ -8,9 +8,9 @@ pub record Says (r : Bool) (P : Type 0) : Type 0 where
   pub no : r ≡ false → P → ⊥
 
 -- an option is filled
-abbrev pub some? : {A : Type 0} → Option A → Bool
-some? Option.none = false
-some? (Option.some a) = true
+abbrev pub is_some : {A : Type 0} → Option A → Bool
+is_some Option.none = false
+is_some (Option.some a) = true
 
 module _ {A : Type 0} where
   -- an element ahead of a list, where a test passes
@@ -33,12 +33,12 @@ module _ {A : Type 0} where
   back p (x ∷ l) = cond (p x) (back p l) (x ∷ l)
 
   -- the first element, and the first that passes
-  abbrev pub head? : List A → Option A
-  head? [] = Option.none
-  head? (x ∷ l) = Option.some x
+  abbrev pub first_one : List A → Option A
+  first_one [] = Option.none
+  first_one (x ∷ l) = Option.some x
 
   abbrev pub first : (A → Bool) → List A → Option A
-  first p l = head? (filter p l)
+  first p l = first_one (filter p l)
 
   -- some element passes
   abbrev pub any : (A → Bool) → List A → Bool

@@ -6,19 +6,19 @@ use native.Mathlib.Omega.{arith}
 use lib.ListN.{length, get_or, drop}
 use Rattle.fields.specs.Cut.{cut}
 use Rattle.fields.specs.Number.{Read, good, bad, number_of}
-use Rattle.fields.specs.Table.{readText}
+use Rattle.fields.specs.Table.{read_text}
 use borrow.Author.Tests.{eq-eqb}
-use Rattle.fields.specs.Scan.{line_at, field_at, nextLine, number_at, FieldTo}
+use Rattle.fields.specs.Scan.{line_at, field_at, next_line, number_at, FieldTo}
 use Rattle.fields.specs.declared.Number.TheVariants.{Value, Bad}
-use Rattle.fields.proofs.Lines.{further, field-to, fields-are, fields-none, fields_out, fields-tab, next-none, next-lf, next-tab, stops-lf, stops-tab}
-use Rattle.fields.proofs.Numbers.{number-bad, number-good, number-to}
-use Rattle.chroms.specs.Entry.{unknown, entry, sized, entryFrom, entry_of, listFound, ReadsLine, gives, leads}
+use Rattle.fields.proofs.Lines.{further, field_to, fields_are, fields_none, fields_out, fields_tab, next_none, next_lf, next_tab, stops_lf, stops_tab}
+use Rattle.fields.proofs.Numbers.{number_bad, number_good, number_to}
+use Rattle.chroms.specs.Entry.{unknown, entry, sized, entry_from, entry_of, list_found, ReadsLine, gives, leads}
 use Rattle.chroms.specs.declared.Entry.{Entry}
 use Rattle.chroms.specs.declared.Line.{Line}
 use Rattle.chroms.specs.declared.Line.TheVariants.{Is, Not}
 
 -- a bad length is malformed whatever follows it
-unsized : (at : ℕ) (name len : List ℕ) (fs : List (List ℕ)) → number_of len ≡ bad → entryFrom at (name ∷ len ∷ fs) ≡ bad
+unsized : (at : ℕ) (name len : List ℕ) (fs : List (List ℕ)) → number_of len ≡ bad → entry_from at (name ∷ len ∷ fs) ≡ bad
 unsized at name len [] e = rw e
 unsized at name len (f ∷ fs) e = refl
 
@@ -30,56 +30,56 @@ module _ {text : List ℕ} {at a : ℕ} (f : FieldTo text at a) where
   alone e = rw (e, f.ends)
 
   pub one_none : a ≡ length text → ReadsLine text at (Is (record { from = at; to = a; len = unknown }) a)
-  one_none h = record { line = alone (fields-none f h); next = sym (next-none f h) }
+  one_none h = record { line = alone (fields_none f h); next = sym (next_none f h) }
 
-  pub one-lf : a < length text → (get_or text a 0 ≡ 9 → ⊥) → ReadsLine text at (Is (record { from = at; to = a; len = unknown }) (a + 1))
-  one-lf h n = record { line = alone (fields_out f h n); next = sym (next-lf f h (stops-lf f h n)) }
+  pub one_lf : a < length text → (get_or text a 0 ≡ 9 → ⊥) → ReadsLine text at (Is (record { from = at; to = a; len = unknown }) (a + 1))
+  one_lf h n = record { line = alone (fields_out f h n); next = sym (next_lf f h (stops_lf f h n)) }
 
   -- a tab follows it
   module _ (h : a < length text) (tab : get_or text a 0 ≡ 9) where
-    pub two-bad : number_at text (a + 1) ≡ Bad → ReadsLine text at Not
+    pub two_bad : number_at text (a + 1) ≡ Bad → ReadsLine text at Not
     unfolding entry_of
-    two-bad e =
-        let g = field-to text (a + 1) (omega arith) in
+    two_bad e =
+        let g = field_to text (a + 1) (omega arith) in
         record {
-          line = rw (fields-tab f h tab, fields-are g) (unsized at (field_at text at) (field_at text (a + 1)) (further (drop (a + 1 + length (field_at text (a + 1))) text)) (number-bad text (a + 1) e));
+          line = rw (fields_tab f h tab, fields_are g) (unsized at (field_at text at) (field_at text (a + 1)) (further (drop (a + 1 + length (field_at text (a + 1))) text)) (number_bad text (a + 1) e));
           next = refl;
         }
 
     -- a length that ends at b
     module _ (v b : ℕ) (e : number_at text (a + 1) ≡ Value v b) where
       pub length_to : FieldTo text (a + 1) b
-      length_to = number-to text (a + 1) v b e (omega arith)
+      length_to = number_to text (a + 1) v b e (omega arith)
 
       known : cut 9 (line_at text (a + 1)) ≡ field_at text (a + 1) ∷ [] → entry_of at (line_at text at) ≡ good (record { from = at; to = a; len = v })
       unfolding entry_of
-      known k = rw (fields-tab f h tab, k, number-good text (a + 1) v b e, f.ends)
+      known k = rw (fields_tab f h tab, k, number_good text (a + 1) v b e, f.ends)
 
       pub two_none : b ≡ length text → ReadsLine text at (Is (record { from = at; to = a; len = v }) b)
-      two_none k = record { line = known (fields-none length_to k); next = sym (next-tab f h tab ∙ next-none length_to k) }
+      two_none k = record { line = known (fields_none length_to k); next = sym (next_tab f h tab ∙ next_none length_to k) }
 
-      pub two-lf : b < length text → get_or text b 0 ≡ 10 → ReadsLine text at (Is (record { from = at; to = a; len = v }) (b + 1))
-      two-lf k q = record { line = known (fields_out length_to k (λ t. omega arith)); next = sym (next-tab f h tab ∙ next-lf length_to k q) }
+      pub two_lf : b < length text → get_or text b 0 ≡ 10 → ReadsLine text at (Is (record { from = at; to = a; len = v }) (b + 1))
+      two_lf k q = record { line = known (fields_out length_to k (λ t. omega arith)); next = sym (next_tab f h tab ∙ next_lf length_to k q) }
 
       pub three : b < length text → (get_or text b 0 ≡ 10 → ⊥) → ReadsLine text at Not
       unfolding entry_of
       three k q =
-          let t = stops-tab length_to k q in
-          let g = field-to text (b + 1) (omega arith) in
-          record { line = rw (fields-tab f h tab, fields-tab length_to k t, fields-are g); next = refl }
+          let t = stops_tab length_to k q in
+          let g = field_to text (b + 1) (omega arith) in
+          record { line = rw (fields_tab f h tab, fields_tab length_to k t, fields_are g); next = refl }
 
 -- what a line that was read tells
 module _ {text : List ℕ} {at : ℕ} {r : Line} (g : ReadsLine text at r) where
-  pub line-not : r ≡ Not → entry_of at (line_at text at) ≡ bad
-  line-not q = g.line ∙ ap gives q
+  pub line_not : r ≡ Not → entry_of at (line_at text at) ≡ bad
+  line_not q = g.line ∙ ap gives q
 
   module _ {e : Entry} {next : ℕ} (q : r ≡ Is e next) where
-    pub line-is : entry_of at (line_at text at) ≡ good e
-    line-is = g.line ∙ ap gives q
+    pub line_is : entry_of at (line_at text at) ≡ good e
+    line_is = g.line ∙ ap gives q
 
-    pub line-next : next ≡ nextLine text at
-    line-next = sym (ap (λ (l : Line). leads l (nextLine text at)) q) ∙ g.next
+    pub line_next : next ≡ next_line text at
+    line_next = sym (ap (λ (l : Line). leads l (next_line text at)) q) ∙ g.next
 
 -- columns that are equally long are filled
-pub list_read : (text : List ℕ) (a b c : ℕ) → b ≡ a → c ≡ a → listFound text a b c ≡ readText entry_of a text
+pub list_read : (text : List ℕ) (a b c : ℕ) → b ≡ a → c ≡ a → list_found text a b c ≡ read_text entry_of a text
 list_read text a b c p q = rw (eq-eqb b a p, eq-eqb c a q)

@@ -19,34 +19,34 @@ abbrev pub absent : List ℕ → List (List ℕ) → Bool
 absent name ns = eqb (number_in ns name) (length ns)
 
 -- no name "is empty, too long or there twice"
-unfoldable pub allNamed : List (List ℕ) → Bool
-allNamed [] = true
-allNamed (name ∷ ns) = named name && absent name ns && allNamed ns
+unfoldable pub all_named : List (List ℕ) → Bool
+all_named [] = true
+all_named (name ∷ ns) = named name && absent name ns && all_named ns
 
 -- the same for the name with the number k, and those behind it
-abbrev pub fineAt : List ℕ → List ℕ → List ℕ → ℕ → Bool
-fineAt text from to k =
+abbrev pub fine_at : List ℕ → List ℕ → List ℕ → ℕ → Bool
+fine_at text from to k =
     named (part (get_or from k 0) (get_or to k 0) text) &&
     absent (part (get_or from k 0) (get_or to k 0) text) (names text (drop (k + 1) from) (drop (k + 1) to))
 
 -- 1 for names that lie outside the text, for columns that differ in length and for the count, then 2
-unfoldable pub checkOf : List ℕ → List ℕ → List ℕ → Check
-checkOf text from to =
+unfoldable pub check_of : List ℕ → List ℕ → List ℕ → Check
+check_of text from to =
     cond (within (length text) from to && counted (length from))
-    (cond (allNamed (names text from to)) Fine Names)
+    (cond (all_named (names text from to)) Fine Names)
     Sizes
 
 -- the refusal number of an answer, 0 for none
-abbrev pub checkNumber : Check → ℕ
-checkNumber Fine = 0
-checkNumber Sizes = 1
-checkNumber Names = 2
+abbrev pub check_number : Check → ℕ
+check_number Fine = 0
+check_number Sizes = 1
+check_number Names = 2
 
 -- the number of a name in list order, or the one after the last; 1 for columns that name what is not in the text
-unfoldable pub foundOf : List ℕ → List ℕ → List ℕ → List ℕ → Lookup
-foundOf text from to name = cond (within (length text) from to) (Number (number_in (names text from to) name)) Refused
+unfoldable pub found_of : List ℕ → List ℕ → List ℕ → List ℕ → Lookup
+found_of text from to name = cond (within (length text) from to) (Number (number_in (names text from to) name)) Refused
 
 -- the refusal number of an answer, 0 for none
-abbrev pub lookupNumber : Lookup → ℕ
-lookupNumber (Number k) = 0
-lookupNumber Refused = 1
+abbrev pub lookup_number : Lookup → ℕ
+lookup_number (Number k) = 0
+lookup_number Refused = 1

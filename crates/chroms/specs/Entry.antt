@@ -2,8 +2,8 @@
 use Rattle.std.specs.Prelude.{ℕ, ◌+◌, ◌≡◌, List, [], ◌∷◌, ◌&&◌, length, eqb}
 use Rattle.fields.specs.Cut.{fields}
 use Rattle.fields.specs.Number.{Read, good, bad, number_of}
-use Rattle.fields.specs.Table.{Found, readText, tested}
-use Rattle.fields.specs.Scan.{line_at, nextLine}
+use Rattle.fields.specs.Table.{Found, read_text, tested}
+use Rattle.fields.specs.Scan.{line_at, next_line}
 use Rattle.chroms.specs.declared.Entry.{Entry}
 use Rattle.chroms.specs.declared.Line.{Line}
 use Rattle.chroms.specs.declared.Line.TheVariants.{Is, Not}
@@ -21,25 +21,25 @@ sized at name (good len) = good (entry at name len)
 sized at name bad = bad
 
 -- "A chromosome line is a name and, where known, a length; a bad length or a third field is 11"
-abbrev pub entryFrom : ℕ → List (List ℕ) → Read Entry
-entryFrom at [] = bad
-entryFrom at (name ∷ []) = good (entry at name unknown)
-entryFrom at (name ∷ len ∷ []) = sized at name (number_of len)
-entryFrom at (name ∷ len ∷ third ∷ more) = bad
+abbrev pub entry_from : ℕ → List (List ℕ) → Read Entry
+entry_from at [] = bad
+entry_from at (name ∷ []) = good (entry at name unknown)
+entry_from at (name ∷ len ∷ []) = sized at name (number_of len)
+entry_from at (name ∷ len ∷ third ∷ more) = bad
 
 unfoldable pub entry_of : ℕ → List ℕ → Read Entry
-entry_of at line = entryFrom at (fields line)
+entry_of at line = entry_from at (fields line)
 
 -- what a list gives that is read to columns of the three lengths: 1 where they differ
-abbrev pub listFound : List ℕ → ℕ → ℕ → ℕ → Found Entry
-listFound text a b c = tested (eqb b a && eqb c a) (readText entry_of a text)
+abbrev pub list_found : List ℕ → ℕ → ℕ → ℕ → Found Entry
+list_found text a b c = tested (eqb b a && eqb c a) (read_text entry_of a text)
 
 -- what the columns take of an entry
-abbrev pub fromOf : Entry → ℕ
-fromOf e = e.from
+abbrev pub from_of : Entry → ℕ
+from_of e = e.from
 
-abbrev pub toOf : Entry → ℕ
-toOf e = e.to
+abbrev pub to_of : Entry → ℕ
+to_of e = e.to
 
 abbrev pub len_of : Entry → ℕ
 len_of e = e.len
@@ -55,4 +55,4 @@ leads Not other = other
 
 pub record ReadsLine (text : List ℕ) (at : ℕ) (r : Line) : Type 0 where
   pub line : entry_of at (line_at text at) ≡ gives r
-  pub next : leads r (nextLine text at) ≡ nextLine text at
+  pub next : leads r (next_line text at) ≡ next_line text at

@@ -3,8 +3,8 @@ ghost use Rattle.std.specs.Prelude.{◌≡◌, ◌≤◌, ◌<◌, true, length,
 ghost use Rattle.fields.specs.Names.{within, names};
 ghost use Rattle.fields.specs.Scan.{FieldTo};
 ghost use Rattle.fields.specs.Table.{Fills};
-ghost use Rattle.chroms.specs.Entry.{ReadsLine, listFound, fromOf, toOf, len_of};
-ghost use Rattle.chroms.specs.Check.{fineAt, allNamed, checkOf, foundOf};
+ghost use Rattle.chroms.specs.Entry.{ReadsLine, list_found, from_of, to_of, len_of};
+ghost use Rattle.chroms.specs.Check.{fine_at, all_named, check_of, found_of};
 
 use fields::{Number, Reading};
 use rules::Settings;
@@ -75,7 +75,7 @@ fn line_at(text: &[u8], at: usize) -> Line
 // Reads a chromosome list to three columns: where each name starts and ends in the text, and its length.
 // Malformed lines are 11, more lines than slots 12, columns that differ in length 1.
 pub fn read_list(text: &[u8], from: &mut [usize], to: &mut [usize], len: &mut [u64]) -> Reading
-    ensures { Fills fromOf toOf len_of (listFound text.now (length from.old) (length to.old) (length len.old)) from.old to.old len.old result from.new to.new len.new }
+    ensures { Fills from_of to_of len_of (list_found text.now (length from.old) (length to.old) (length len.old)) from.old to.old len.old result from.new to.new len.new }
 {
     let room = from.len();
     if to.len() != room {
@@ -127,7 +127,7 @@ pub enum Lookup {
 // Whether the name with the number k is 1 to 255 bytes long and none of those behind it.
 fn is_fine(text: &[u8], from: &[usize], to: &[usize], k: usize) -> bool
     requires { (within (length text.now) from.now to.now ≡ true) × (k < length from.now) }
-    ensures { result ≡ fineAt text.now from.now to.now k }
+    ensures { result ≡ fine_at text.now from.now to.now k }
 {
     let f = from[k];
     let t = to[k];
@@ -148,7 +148,7 @@ fn is_fine(text: &[u8], from: &[usize], to: &[usize], k: usize) -> bool
 // Whether no name is empty, too long or there twice.
 fn are_fine(text: &[u8], from: &[usize], to: &[usize]) -> bool
     requires { within (length text.now) from.now to.now ≡ true }
-    ensures { result ≡ allNamed (names text.now from.now to.now) }
+    ensures { result ≡ all_named (names text.now from.now to.now) }
 {
     let count = from.len();
     let mut k = 0;
@@ -163,7 +163,7 @@ fn are_fine(text: &[u8], from: &[usize], to: &[usize]) -> bool
 
 // Checks a list of names, given as where each starts and ends in a text: 1 for its sizes, then 2 for its names.
 pub fn check_list(text: &[u8], from: &[usize], to: &[usize]) -> Check
-    ensures { result ≡ checkOf text.now from.now to.now }
+    ensures { result ≡ check_of text.now from.now to.now }
 {
     if !fields::all_within(text.len(), from, to) {
         return Check::Sizes;
@@ -183,7 +183,7 @@ pub fn check_list(text: &[u8], from: &[usize], to: &[usize]) -> Check
 
 // The number of a name in list order, or the number after the last.
 pub fn find_name(text: &[u8], from: &[usize], to: &[usize], name: &[u8]) -> Lookup
-    ensures { result ≡ foundOf text.now from.now to.now name.now }
+    ensures { result ≡ found_of text.now from.now to.now name.now }
 {
     if fields::all_within(text.len(), from, to) {
         return Lookup::Number(fields::find_in(text, from, to, 0, name));

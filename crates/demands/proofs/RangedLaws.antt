@@ -9,13 +9,13 @@ use Rattle.rules.specs.declared.Stage.TheVariants.{Fresh, After, Over}
 use Rattle.heads.specs.declared.Move.{Move}
 use Rattle.heads.specs.declared.Move.TheVariants as move
 use Rattle.heads.specs.declared.Then.TheVariants as then
-use Rattle.heads.specs.View.{Cols, Heads, restsOf}
+use Rattle.heads.specs.View.{Cols, Heads, rests_of}
 use Rattle.heads.specs.Move.{moved, turn_of}
-use Rattle.heads.proofs.RestLaws.{moved-placed, moved-shaped}
+use Rattle.heads.proofs.RestLaws.{moved_placed, moved_shaped}
 use Rattle.heads.proofs.TurnLaws.{Turning}
 use Rattle.heads.proofs.LoadLaws.{upto}
-use Rattle.pulls.specs.Pulls.{afterTurns, drawnTo}
-use Rattle.step.specs.Give.{openedBy}
+use Rattle.pulls.specs.Pulls.{after_turns, drawn_to}
+use Rattle.step.specs.Give.{opened_by}
 
 -- the heads g are in place, and of the streams of h
 pub record Ranged (s : Cols) (h g : Heads) : Type 0 where
@@ -25,40 +25,40 @@ pub record Ranged (s : Cols) (h g : Heads) : Type 0 where
   pub to : g.to ≡ h.to
 
 module _ (s : Cols) where
-  ranged-same : (h : Heads) → Turning s h → Ranged s h h
-  ranged-same h w = record { turning = w; streams = refl; from = refl; to = refl }
+  ranged_same : (h : Heads) → Turning s h → Ranged s h h
+  ranged_same h w = record { turning = w; streams = refl; from = refl; to = refl }
 
-  ranged-trans : {h g f : Heads} → Ranged s h g → Ranged s g f → Ranged s h f
-  ranged-trans a b = record { turning = b.turning; streams = b.streams ∙ a.streams; from = b.from ∙ a.from; to = b.to ∙ a.to }
+  ranged_trans : {h g f : Heads} → Ranged s h g → Ranged s g f → Ranged s h f
+  ranged_trans a b = record { turning = b.turning; streams = b.streams ∙ a.streams; from = b.from ∙ a.from; to = b.to ∙ a.to }
 
-  opened-ranged : (t : Stage) (h : Heads) → Turning s h → Ranged s h (openedBy t s h)
-  opened-ranged Fresh h w =
+  opened_ranged : (t : Stage) (h : Heads) → Turning s h → Ranged s h (opened_by t s h)
+  opened_ranged Fresh h w =
       let u = upto s h w.shaped w.placed h.streams (omega arith) in
       record { turning = record { placed = u.placed; shaped = u.shaped }; streams = u.streams; from = u.from; to = u.to }
-  opened-ranged (After p) h w = ranged-same h w
-  opened-ranged (Over e) h w = ranged-same h w
+  opened_ranged (After p) h w = ranged_same h w
+  opened_ranged (Over e) h w = ranged_same h w
 
   module _ (n : ℕ) (b : Base) where
-    moved-ranged : (h : Heads) → Turning s h → Ranged s h (moved h (turn_of s n b h))
-    moved-ranged h w =
+    moved_ranged : (h : Heads) → Turning s h → Ranged s h (moved h (turn_of s n b h))
+    moved_ranged h w =
         by_move (turn_of s n b h)
-        (record { placed = moved-placed s h w.shaped w.placed.few n b w.placed; shaped = moved-shaped h (turn_of s n b h) w.shaped })
+        (record { placed = moved_placed s h w.shaped w.placed.few n b w.placed; shaped = moved_shaped h (turn_of s n b h) w.shaped })
       where
         by_move : (m : Move) → Turning s (moved h m) → Ranged s h (moved h m)
-        by_move (move.Stay x) v = ranged-same h v
-        by_move (move.Wrong e) v = ranged-same h v
+        by_move (move.Stay x) v = ranged_same h v
+        by_move (move.Wrong e) v = ranged_same h v
         by_move (move.Takes t then.Ends) v = record { turning = v; streams = refl; from = refl; to = refl }
         by_move (move.Takes t (then.Goes x)) v = record { turning = v; streams = refl; from = refl; to = refl }
 
-    turns-ranged : (k : ℕ) (h : Heads) → Turning s h → Ranged s h (afterTurns s n b k h)
-    unfolding afterTurns
-    turns-ranged zero h w = ranged-same h w
-    turns-ranged (suc k) h w =
-        let m : Ranged s h (moved h (turn_of s n b h)) = moved-ranged h w in
-        ranged-trans m (turns-ranged k (moved h (turn_of s n b h)) m.turning)
+    turns_ranged : (k : ℕ) (h : Heads) → Turning s h → Ranged s h (after_turns s n b k h)
+    unfolding after_turns
+    turns_ranged zero h w = ranged_same h w
+    turns_ranged (suc k) h w =
+        let m : Ranged s h (moved h (turn_of s n b h)) = moved_ranged h w in
+        ranged_trans m (turns_ranged k (moved h (turn_of s n b h)) m.turning)
 
     -- the heads after a pull, from those of a run by how it stands
-    pub drawn-ranged : (t : Stage) (h : Heads) → Turning s h → Ranged s h (drawnTo s n b (openedBy t s h))
-    drawn-ranged t h w =
-        let o : Ranged s h (openedBy t s h) = opened-ranged t h w in
-        ranged-trans o (turns-ranged (total (restsOf s (openedBy t s h))) (openedBy t s h) o.turning)
+    pub drawn_ranged : (t : Stage) (h : Heads) → Turning s h → Ranged s h (drawn_to s n b (opened_by t s h))
+    drawn_ranged t h w =
+        let o : Ranged s h (opened_by t s h) = opened_ranged t h w in
+        ranged_trans o (turns_ranged (total (rests_of s (opened_by t s h))) (opened_by t s h) o.turning)

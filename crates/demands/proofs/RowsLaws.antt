@@ -10,7 +10,7 @@ use lib.Dec.{leb, ltb}
 use lib.ListN.{length, length-append, get_or}
 use borrow.Author.Tests.{leb-false, le-ltb}
 use Rattle.basics.specs.Lists.{total, filter}
-use Rattle.basics.proofs.ListLaws.{length-filter}
+use Rattle.basics.proofs.ListLaws.{length_filter}
 use Rattle.rules.specs.declared.Base.{Base}
 use Rattle.rules.specs.declared.End.{End}
 use Rattle.rules.specs.declared.End.TheVariants.{NoRoom, NoRows}
@@ -22,9 +22,9 @@ use Rattle.rules.specs.Merge.{Pick, pick}
 use Rattle.rules.specs.Streams.{ahead, next}
 use Rattle.rules.specs.Overlap.{taken, live, overlaps}
 use Rattle.rules.specs.Offer.{offer}
-use Rattle.rules.specs.Pull.{Pull, paused, ends, unlessWrong, turn, turns, pull}
-use Rattle.rules.specs.Bases.{inOrder, beyond, judge}
-use Rattle.rules.specs.Call.{Run, Reply, found, refused, ended, Given, Lent, refuse, end, loading, coming, afterPull, pulling, accept, judged, byStage, give}
+use Rattle.rules.specs.Pull.{Pull, paused, ends, unless_wrong, turn, turns, pull}
+use Rattle.rules.specs.Bases.{in_order, beyond, judge}
+use Rattle.rules.specs.Call.{Run, Reply, found, refused, ended, Given, Lent, refuse, end, loading, coming, after_pull, pulling, accept, judged, by_stage, give}
 use Rattle.rules.specs.Job.{lending}
 
 -- ---- a pull leaves no more than Q
@@ -34,26 +34,26 @@ module _ {R E : Type 0} (ahead : R → R → Bool) (flaw : R → List R → Opti
   Few (paused ss queue) = length queue ≤ Q
   Few (ends e) = Unit {0}
 
-  turns-few : (n : ℕ) (ss : List (List R)) (queue : List R) → length queue ≤ Q → Few (turns ahead flaw full taken live Q n ss queue)
+  turns_few : (n : ℕ) (ss : List (List R)) (queue : List R) → length queue ≤ Q → Few (turns ahead flaw full taken live Q n ss queue)
   unfolding turns
-  turns-few zero ss queue h = h
-  turns-few (suc n) ss queue h = go (pick ahead ss) (turns-few n)
+  turns_few zero ss queue h = h
+  turns_few (suc n) ss queue h = go (pick ahead ss) (turns_few n)
     where
       go : (o : Pick R) → ((ts : List (List R)) (q : List R) → length q ≤ Q → Few (turns ahead flaw full taken live Q n ts q)) → Few (turn ahead flaw full taken live Q (turns ahead flaw full taken live Q n) ss queue o)
       go Pick.none k = h
       go (Pick.one a rest ts) k = case (taken a) (flaw a rest) (live a) (leb Q (length queue)) refl
         where
           case : (t : Bool) (w : Option E) (v f : Bool) → leb Q (length queue) ≡ f
-              → Few (cond t (unlessWrong w (cond v (cond f (ends full) (turns ahead flaw full taken live Q n ts (queue ++ a ∷ []))) (turns ahead flaw full taken live Q n ts queue))) (paused ss queue))
+              → Few (cond t (unless_wrong w (cond v (cond f (ends full) (turns ahead flaw full taken live Q n ts (queue ++ a ∷ []))) (turns ahead flaw full taken live Q n ts queue))) (paused ss queue))
           case false w v f e = h
           case true (some x) v f e = tt
           case true none true true e = tt
           case true none true false e = k ts (queue ++ a ∷ []) (omega (arith, leb-false Q (length queue) e, length-append queue (a ∷ [])))
           case true none false f e = k ts queue h
 
-  pull-few : (ss : List (List R)) (queue : List R) → length queue ≤ Q → Few (pull ahead flaw full taken live Q ss queue)
+  pull_few : (ss : List (List R)) (queue : List R) → length queue ≤ Q → Few (pull ahead flaw full taken live Q ss queue)
   unfolding pull
-  pull-few ss queue h = turns-few (total ss) ss queue h
+  pull_few ss queue h = turns_few (total ss) ss queue h
 
 -- ---- more answer rows
 
@@ -61,41 +61,41 @@ module _ (lengths : List (Option ℕ)) (Q rows : ℕ) (r : Run) (b : Base) (enou
   abbrev N : ℕ
   N = length lengths
 
-  after-rows : (p : Pull Record End) → Few ahead (next N) NoRoom (taken b) (live b) Q p → afterPull rows r b p ≡ afterPull Q r b p
-  after-rows (ends e) h = refl
-  after-rows (paused ss queue) h =
-      rw (le-ltb rows (length (filter (overlaps b) queue)) (omega (arith, length-filter (overlaps b) queue)), le-ltb Q (length (filter (overlaps b) queue)) (omega (arith, length-filter (overlaps b) queue)))
+  after_rows : (p : Pull Record End) → Few ahead (next N) NoRoom (taken b) (live b) Q p → after_pull rows r b p ≡ after_pull Q r b p
+  after_rows (ends e) h = refl
+  after_rows (paused ss queue) h =
+      rw (le-ltb rows (length (filter (overlaps b) queue)) (omega (arith, length_filter (overlaps b) queue)), le-ltb Q (length (filter (overlaps b) queue)) (omega (arith, length_filter (overlaps b) queue)))
 
-  pulling-rows : pulling N Q rows r b ≡ pulling N Q Q r b
-  pulling-rows = after-rows (pull ahead (next N) NoRoom (taken b) (live b) Q r.left (filter (live b) r.queue)) (pull-few ahead (next N) NoRoom (taken b) (live b) Q r.left (filter (live b) r.queue) (omega (arith, length-filter (live b) r.queue)))
+  pulling_rows : pulling N Q rows r b ≡ pulling N Q Q r b
+  pulling_rows = after_rows (pull ahead (next N) NoRoom (taken b) (live b) Q r.left (filter (live b) r.queue)) (pull_few ahead (next N) NoRoom (taken b) (live b) Q r.left (filter (live b) r.queue) (omega (arith, length_filter (live b) r.queue)))
 
-  judged-rows : (w : Option End) (o : Option Refusal) → judged N Q rows r b w o ≡ judged N Q Q r b w o
-  judged-rows w (some x) = refl
-  judged-rows (some e) none = refl
-  judged-rows none none = pulling-rows
+  judged_rows : (w : Option End) (o : Option Refusal) → judged N Q rows r b w o ≡ judged N Q Q r b w o
+  judged_rows w (some x) = refl
+  judged_rows (some e) none = refl
+  judged_rows none none = pulling_rows
 
-  pub give-rows : give lengths Q (record { right = true; rows = rows }) r b ≡ give lengths Q (lending Q) r b
+  pub give_rows : give lengths Q (record { right = true; rows = rows }) r b ≡ give lengths Q (lending Q) r b
   unfolding give
-  give-rows = go r.stage
+  give_rows = go r.stage
     where
-      go : (t : Stage) → byStage lengths Q (record { right = true; rows = rows }) r b t ≡ byStage lengths Q (lending Q) r b t
-      go Fresh = judged-rows (loading N r.left) (judge lengths none b)
-      go (After p) = judged-rows none (judge lengths (some p) b)
+      go : (t : Stage) → by_stage lengths Q (record { right = true; rows = rows }) r b t ≡ by_stage lengths Q (lending Q) r b t
+      go Fresh = judged_rows (loading N r.left) (judge lengths none b)
+      go (After p) = judged_rows none (judge lengths (some p) b)
       go (Over e) = refl
 
 -- ---- 1
 
 -- an ended run does not look at what is lent
-pub give-over : (lengths : List (Option ℕ)) (Q : ℕ) (l m : Lent) (r : Run) (b : Base) (e : End) → r.stage ≡ Over e → give lengths Q l r b ≡ give lengths Q m r b
+pub give_over : (lengths : List (Option ℕ)) (Q : ℕ) (l m : Lent) (r : Run) (b : Base) (e : End) → r.stage ≡ Over e → give lengths Q l r b ≡ give lengths Q m r b
 unfolding give
-give-over lengths Q l m r b e i = ap (byStage lengths Q l r b) i ∙ sym (ap (byStage lengths Q m r b) i)
+give_over lengths Q l m r b e i = ap (by_stage lengths Q l r b) i ∙ sym (ap (by_stage lengths Q m r b) i)
 
 -- where 1 is due a run that goes on is refused so
-pub give-wrong : (lengths : List (Option ℕ)) (Q rows : ℕ) (r : Run) (b : Base) → ((e : End) → r.stage ≡ Over e → ⊥) → give lengths Q (record { right = false; rows = rows }) r b ≡ refuse r Refusal.Sizes
+pub give_wrong : (lengths : List (Option ℕ)) (Q rows : ℕ) (r : Run) (b : Base) → ((e : End) → r.stage ≡ Over e → ⊥) → give lengths Q (record { right = false; rows = rows }) r b ≡ refuse r Refusal.Sizes
 unfolding give
-give-wrong lengths Q rows r b h = go r.stage refl
+give_wrong lengths Q rows r b h = go r.stage refl
   where
-    go : (t : Stage) → r.stage ≡ t → byStage lengths Q (record { right = false; rows = rows }) r b t ≡ refuse r Refusal.Sizes
+    go : (t : Stage) → r.stage ≡ t → by_stage lengths Q (record { right = false; rows = rows }) r b t ≡ refuse r Refusal.Sizes
     go Fresh i = refl
     go (After p) i = refl
     go (Over e) i = absurd (h e i)
@@ -111,12 +111,12 @@ Heeded (refused Refusal.Reversed) = Unit {0}
 Heeded (ended e) = Unit {0}
 
 -- 4, 6, 3 and 5 are not 1
-judged-heeded : (n Q rows : ℕ) (r : Run) (b : Base) (w : Option End) (lengths : List (Option ℕ)) (last : Option Base) → Heeded (judged n Q rows r b w (judge lengths last b)).reply
+judged_heeded : (n Q rows : ℕ) (r : Run) (b : Base) (w : Option End) (lengths : List (Option ℕ)) (last : Option Base) → Heeded (judged n Q rows r b w (judge lengths last b)).reply
 unfolding judge
-judged-heeded n Q rows r b w lengths last =
-    go (leb (length lengths) b.chrom.0) (ltb b.stop b.start) (beyond (get_or lengths b.chrom.0 none) b.stop) (inOrder last b)
+judged_heeded n Q rows r b w lengths last =
+    go (leb (length lengths) b.chrom.0) (ltb b.stop b.start) (beyond (get_or lengths b.chrom.0 none) b.stop) (in_order last b)
   where
-    after : (p : Pull Record End) → Heeded (afterPull rows r b p).reply
+    after : (p : Pull Record End) → Heeded (after_pull rows r b p).reply
     after (ends e) = tt
     after (paused ss queue) = by_rows (ltb rows (length (filter (overlaps b) queue)))
       where
@@ -136,11 +136,11 @@ judged-heeded n Q rows r b w lengths last =
     go false false false true = accepted w
 
 -- where 1 is not due no base is refused so
-pub give-heeded : (lengths : List (Option ℕ)) (Q rows : ℕ) (r : Run) (b : Base) → (give lengths Q (record { right = true; rows = rows }) r b).reply ≡ refused Refusal.Sizes → ⊥
+pub give_heeded : (lengths : List (Option ℕ)) (Q rows : ℕ) (r : Run) (b : Base) → (give lengths Q (record { right = true; rows = rows }) r b).reply ≡ refused Refusal.Sizes → ⊥
 unfolding give
-give-heeded lengths Q rows r b e = subst Heeded e (go r.stage)
+give_heeded lengths Q rows r b e = subst Heeded e (go r.stage)
   where
-    go : (t : Stage) → Heeded (byStage lengths Q (record { right = true; rows = rows }) r b t).reply
-    go Fresh = judged-heeded (length lengths) Q rows r b (loading (length lengths) r.left) lengths none
-    go (After p) = judged-heeded (length lengths) Q rows r b none lengths (some p)
+    go : (t : Stage) → Heeded (by_stage lengths Q (record { right = true; rows = rows }) r b t).reply
+    go Fresh = judged_heeded (length lengths) Q rows r b (loading (length lengths) r.left) lengths none
+    go (After p) = judged_heeded (length lengths) Q rows r b none lengths (some p)
     go (Over x) = tt

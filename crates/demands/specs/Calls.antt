@@ -11,15 +11,15 @@ use Rattle.rules.specs.Demands.{Spot}
 use Rattle.rules.specs.Job.{Job}
 use Rattle.heads.specs.View.{Cols}
 use Rattle.queue.specs.Ring.{Cells}
-use Rattle.queue.specs.Deeds.{answerRow}
-use Rattle.admit.specs.Gates.{lengthsOf}
+use Rattle.queue.specs.Deeds.{answer_row}
+use Rattle.admit.specs.Gates.{lengths_of}
 use Rattle.runs.specs.declared.Run.{Run}
 use Rattle.runs.specs.declared.Given.{Given}
 use Rattle.runs.specs.declared.start.Begins.TheVariants.{Begun}
 use Rattle.pulls.specs.Pulls.{Lent, lent}
 use Rattle.step.specs.Give.{Gives}
-use Rattle.runs.specs.Comes.{rightOf}
-use Rattle.runs.specs.Start.{Plan, streamsOf, start_of}
+use Rattle.runs.specs.Comes.{right_of}
+use Rattle.runs.specs.Start.{Plan, streams_of, start_of}
 
 -- "a base refused by 1 counts there as not given"
 abbrev pub Unheeded : Given → Type 0
@@ -47,7 +47,7 @@ pub data Calls (s : Cols) (lengths : List ℕ) : Run → Cells → List Base →
 
 -- the job that a run was begun with: the lent columns' rows, and the chromosomes' lengths
 abbrev pub job_of : Plan → List ℕ → Job
-job_of p lengths = record { lengths = lengthsOf lengths; streams = streamsOf p.cols p.settings.streams p.from p.to; room = p.settings.room }
+job_of p lengths = record { lengths = lengths_of lengths; streams = streams_of p.cols p.settings.streams p.from p.to; room = p.settings.room }
 
 -- the calls of a run that begins by the plan p
 pub record Runs (p : Plan) (lengths : List ℕ) (bs : List Base) (os : List Came) : Type 0 where
@@ -60,52 +60,52 @@ pub record Runs (p : Plan) (lengths : List ℕ) (bs : List Base) (os : List Came
 -- ---- what came out
 
 -- of one of the bases
-abbrev pub cameAt : {bs : List Base} → Spot bs → List Came → Came
-cameAt at os = get_or os (length at.ahead) (came (answer.Refused Sizes) [] [])
+abbrev pub came_at : {bs : List Base} → Spot bs → List Came → Came
+came_at at os = get_or os (length at.ahead) (came (answer.Refused Sizes) [] [])
 
 -- "On success the first n answer rows hold stream and row number; the others stay.": it answered that it found the records rs, as many as there are, and
 -- wrote their streams and rows, in this order, and nothing behind them
 pub record Brings (rs : List Record) (o : Came) : Type 0 where
   pub offer : Offer
   pub answer : o.answer ≡ answer.Found (length rs) offer
-  pub rows : o.after ≡ map answerRow rs ++ drop (length rs) o.before
+  pub rows : o.after ≡ map answer_row rs ++ drop (length rs) o.before
 
 -- the returned count, and the returned offer
-abbrev pub countIn : Answer → ℕ
-countIn (answer.Found n o) = n
-countIn (answer.Refused x) = 0
-countIn (answer.Ended e) = 0
+abbrev pub count_in : Answer → ℕ
+count_in (answer.Found n o) = n
+count_in (answer.Refused x) = 0
+count_in (answer.Ended e) = 0
 
-abbrev pub offerIn : Answer → Offer
-offerIn (answer.Found n o) = o
-offerIn (answer.Refused x) = Nothing
-offerIn (answer.Ended e) = Nothing
+abbrev pub offer_in : Answer → Offer
+offer_in (answer.Found n o) = o
+offer_in (answer.Refused x) = Nothing
+offer_in (answer.Ended e) = Nothing
 
 -- the first n answer rows, n being the returned count
-abbrev pub rowsIn : Came → List (List ℕ)
-rowsIn o = take (countIn o.answer) o.after
+abbrev pub rows_in : Came → List (List ℕ)
+rows_in o = take (count_in o.answer) o.after
 
 -- those of several calls, one behind the other
 abbrev pub all_rows : List Came → List (List ℕ)
 all_rows [] = []
-all_rows (o ∷ os) = rowsIn o ++ all_rows os
+all_rows (o ∷ os) = rows_in o ++ all_rows os
 
 -- what the last of several calls offered
-abbrev pub lastOffer : List Came → Offer
-lastOffer [] = Nothing
-lastOffer (o ∷ []) = offerIn o.answer
-lastOffer (o ∷ u ∷ os) = lastOffer (u ∷ os)
+abbrev pub last_offer : List Came → Offer
+last_offer [] = Nothing
+last_offer (o ∷ []) = offer_in o.answer
+last_offer (o ∷ u ∷ os) = last_offer (u ∷ os)
 
 -- two calls gave the same: the answer, its numbers and offer among it, and the rows
 pub record Same (o u : Came) : Type 0 where
   pub answer : o.answer ≡ u.answer
-  pub rows : rowsIn o ≡ rowsIn u
+  pub rows : rows_in o ≡ rows_in u
 
 -- ---- "A run that comes back so is never itself the cause of 1"
 
 -- "1 is then due only to what that call is newly given": not where there are at least as many answer rows as the room
 abbrev pub Blameless : Cols → List ℕ → Run → Cells → Type 0
-Blameless s lengths r c = (answers : List (List ℕ)) → r.settings.room ≤ length answers → rightOf s lengths r (lent c answers) ≡ true
+Blameless s lengths r c = (answers : List (List ℕ)) → r.settings.room ≤ length answers → right_of s lengths r (lent c answers) ≡ true
 
 -- "with the sizes given at its start": the run u has those of r, and its streams' ranges
 pub record SizedAs (r u : Run) : Type 0 where

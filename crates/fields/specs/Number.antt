@@ -7,13 +7,13 @@ pub data Read (A : Type 0) : Type 0 where
   bad : Read A
 
 -- the byte is one of `0` to `9`
-abbrev pub isDigit : ℕ → Bool
-isDigit b = leb 48 b && leb b 57
+abbrev pub is_digit : ℕ → Bool
+is_digit b = leb 48 b && leb b 57
 
 -- every byte is a digit
 unfoldable pub digits : List ℕ → Bool
 digits [] = true
-digits (b ∷ l) = isDigit b && digits l
+digits (b ∷ l) = is_digit b && digits l
 
 -- the decimal value of digits that follow a number v
 unfoldable pub value : ℕ → List ℕ → ℕ

@@ -1,6 +1,6 @@
 -- What is found from a place of a text on: the line and the field that start there, the number in that field.
 use Rattle.std.specs.Prelude.{ℕ, suc, ◌+◌, ◌-◌, ◌^◌, ◌≤◌, ◌<◌, min, ◌≡◌, List, [], ◌∷◌, Bool, true, false, cond, not, ◌&&◌, length, get_or, drop, eqb}
-use Rattle.fields.specs.Number.{Read, good, bad, isDigit, digits, value, number_of}
+use Rattle.fields.specs.Number.{Read, good, bad, is_digit, digits, value, number_of}
 use Rattle.fields.specs.Table.{passed}
 use Rattle.fields.specs.declared.Number.{Number}
 use Rattle.fields.specs.declared.Number.TheVariants.{Value, Bad}
@@ -12,18 +12,18 @@ front p [] = []
 front p (b ∷ l) = cond (p b) (b ∷ front p l) []
 
 -- no LF; neither a tab nor LF
-abbrev pub inLine : ℕ → Bool
-inLine b = not (eqb b 10)
+abbrev pub in_line : ℕ → Bool
+in_line b = not (eqb b 10)
 
-abbrev pub inField : ℕ → Bool
-inField b = not (eqb b 9) && not (eqb b 10)
+abbrev pub in_field : ℕ → Bool
+in_field b = not (eqb b 9) && not (eqb b 10)
 
 -- the rest of the line from a place on, and the rest of the field
 abbrev pub line_at : List ℕ → ℕ → List ℕ
-line_at text at = front inLine (drop at text)
+line_at text at = front in_line (drop at text)
 
 abbrev pub field_at : List ℕ → ℕ → List ℕ
-field_at text at = front inField (drop at text)
+field_at text at = front in_field (drop at text)
 
 -- the field that starts at `at` ends at a
 pub record FieldTo (text : List ℕ) (at a : ℕ) : Type 0 where
@@ -31,22 +31,22 @@ pub record FieldTo (text : List ℕ) (at a : ℕ) : Type 0 where
   pub inside : a ≤ length text
 
 -- where the next line starts: behind the LF, or at the end
-abbrev pub nextLine : List ℕ → ℕ → ℕ
-nextLine text at = min (at + suc (length (line_at text at))) (length text)
+abbrev pub next_line : List ℕ → ℕ → ℕ
+next_line text at = min (at + suc (length (line_at text at))) (length text)
 
 -- r is past the line that starts at `at` where that line is passed by, and `at` itself where it is not
 pub record Past (text : List ℕ) (at r : ℕ) : Type 0 where
   pub gone : at < r → passed (line_at text at) ≡ true
-  pub next : at < r → r ≡ nextLine text at
+  pub next : at < r → r ≡ next_line text at
   pub stays : r ≤ at → passed (line_at text at) ≡ false
 
 -- the number of the field that starts at a place, with the place where the field ends
-abbrev pub numberRead : ℕ → Read ℕ → Number
-numberRead stop (good v) = Value v stop
-numberRead stop bad = Bad
+abbrev pub number_read : ℕ → Read ℕ → Number
+number_read stop (good v) = Value v stop
+number_read stop bad = Bad
 
 unfoldable pub number_at : List ℕ → ℕ → Number
-number_at text at = numberRead (at + length (field_at text at)) (number_of (field_at text at))
+number_at text at = number_read (at + length (field_at text at)) (number_of (field_at text at))
 
 -- a walk from `from` stands at i: the start that it passes over ends at the same place
 pub record Walk (p : ℕ → Bool) (text : List ℕ) (from i : ℕ) : Type 0 where
@@ -56,14 +56,14 @@ pub record Walk (p : ℕ → Bool) (text : List ℕ) (from i : ℕ) : Type 0 whe
 -- a walk over the digits of the field at `from` stands at i, and those passed are the number v: what is left of the field
 -- decides whether it is a number, and which
 pub record Counting (text : List ℕ) (from i v : ℕ) : Type 0 where
-  pub walk : Walk inField text from i
+  pub walk : Walk in_field text from i
   pub low : from ≤ i
   pub small : v < 10 ^ (i - from)
   pub same_digits : digits (field_at text from) ≡ digits (field_at text i)
-  pub same-value : value 0 (field_at text from) ≡ value v (field_at text i)
+  pub same_value : value 0 (field_at text from) ≡ value v (field_at text i)
 
 -- a walk over digits that stops at the first other byte, or at `to`
 pub record Counted (text : List ℕ) (from to : ℕ) (d : Digits) : Type 0 where
   pub counting : Counting text from d.stop d.value
   pub high : d.stop ≤ to
-  pub stopped : d.stop < to → isDigit (get_or text d.stop 0) ≡ false
+  pub stopped : d.stop < to → is_digit (get_or text d.stop 0) ≡ false

@@ -31,21 +31,21 @@ module _ {A : Type 0} where
   ahead x f = record { rows = x ∷ f.rows; end = f.end }
 
   -- a line that is not passed by, where `room` slots are left, and what is found behind it: it is judged before the slots are
-  abbrev pub rowStep : ℕ → Read A → Found A → Found A
-  rowStep room bad f = ends malformed
-  rowStep zero (good x) f = ends full
-  rowStep (suc room) (good x) f = ahead x f
+  abbrev pub row_step : ℕ → Read A → Found A → Found A
+  row_step room bad f = ends malformed
+  row_step zero (good x) f = ends full
+  row_step (suc room) (good x) f = ahead x f
 
   -- the lines from the one that starts at the place `at` of the text; `row` is what a line at a place gives
-  unfoldable pub readLines : (ℕ → List ℕ → Read A) → ℕ → ℕ → List (List ℕ) → Found A
-  readLines row room at [] = ends whole
-  readLines row room at (l ∷ ls) =
-      cond (passed l) (readLines row room (at + suc (length l)) ls)
-      (rowStep room (row at l) (readLines row (pred room) (at + suc (length l)) ls))
+  unfoldable pub read_lines : (ℕ → List ℕ → Read A) → ℕ → ℕ → List (List ℕ) → Found A
+  read_lines row room at [] = ends whole
+  read_lines row room at (l ∷ ls) =
+      cond (passed l) (read_lines row room (at + suc (length l)) ls)
+      (row_step room (row at l) (read_lines row (pred room) (at + suc (length l)) ls))
 
   -- the whole text, for `room` lent slots
-  abbrev pub readText : (ℕ → List ℕ → Read A) → ℕ → List ℕ → Found A
-  readText row room text = readLines row room 0 (lines text)
+  abbrev pub read_text : (ℕ → List ℕ → Read A) → ℕ → List ℕ → Found A
+  read_text row room text = read_lines row room 0 (lines text)
 
   -- what is found where a test is passed first: else 1, and no row
   abbrev pub tested : Bool → Found A → Found A
@@ -70,11 +70,11 @@ pub record Fills {A : Type 0} (f g h : A → ℕ) (found : Found A) (a b c : Lis
   pub third : c' ≡ written h found c
 
 -- the refusal number of an answer, 0 for none
-abbrev pub refusalOf : Reading → ℕ
-refusalOf (Whole n) = 0
-refusalOf (Malformed n) = 11
-refusalOf (Full n) = 12
-refusalOf Refused = 1
+abbrev pub refusal_of : Reading → ℕ
+refusal_of (Whole n) = 0
+refusal_of (Malformed n) = 11
+refusal_of (Full n) = 12
+refusal_of Refused = 1
 
 -- the rows ahead of the end
 abbrev pub rows_of : Reading → ℕ

@@ -1,7 +1,7 @@
 // Texts read in one walk: where a field or a line ends, the number in a field, a name among names.
 // The functions here are called by proved readers alone.
 ghost use Rattle.std.specs.Prelude.{◌≡◌, ◌+◌, ◌<◌, ◌≤◌, min, true, length, get_or, drop};
-ghost use Rattle.fields.specs.Scan.{inField, FieldTo, Past, nextLine, number_at, Counting, Counted};
+ghost use Rattle.fields.specs.Scan.{in_field, FieldTo, Past, next_line, number_at, Counting, Counted};
 ghost use Rattle.fields.specs.Names.{part, within, names, same, number_in};
 
 // How a reading ended, with the rows ahead of the end; refused: nothing was read.
@@ -43,7 +43,7 @@ pub fn field_end(text: &[u8], from: usize) -> usize
 // Where the line after the one that `from` lies in starts: behind the next LF, or where the text ends.
 pub fn next_line(text: &[u8], from: usize) -> usize
     requires { from ≤ length text.now }
-    ensures { (result ≡ nextLine text.now from) × (result ≤ length text.now) }
+    ensures { (result ≡ next_line text.now from) × (result ≤ length text.now) }
 {
     let end = text.len();
     let mut i = from;
@@ -119,7 +119,7 @@ fn digits_from(text: &[u8], from: usize, to: usize) -> Digits
 
 // The number of a field of which 19 digits, of value v, are passed, and which goes on at `at`.
 fn twentieth(text: &[u8], from: usize, v: u64, at: usize) -> Number
-    requires { Counting text.now from at v × (at ≡ from + 19) × (at < length text.now) × (inField (get_or text.now at 0) ≡ true) }
+    requires { Counting text.now from at v × (at ≡ from + 19) × (at < length text.now) × (in_field (get_or text.now at 0) ≡ true) }
     ensures { result ≡ number_at text.now from }
 {
     let b = text[at];

@@ -7,10 +7,10 @@ use Rattle.layouts.specs.Columns.{Columns}
 pub record Ready (n m : ℕ) (l : Layout) (c : Columns) : Type 0 where
   pub fragments : n ≡ length l.bases
   pub pieces : m ≡ length l.pieces
-  pub present-fits : n ≤ length c.present
-  pub bstart-fits : n ≤ length c.bstart
-  pub bstop-fits : n ≤ length c.bstop
-  pub from-fits : n ≤ length c.from
-  pub to-fits : n ≤ length c.to
-  pub pstart-fits : m ≤ length c.pstart
-  pub pstop-fits : m ≤ length c.pstop
+  pub present_fits : n ≤ length c.present
+  pub bstart_fits : n ≤ length c.bstart
+  pub bstop_fits : n ≤ length c.bstop
+  pub from_fits : n ≤ length c.from
+  pub to_fits : n ≤ length c.to
+  pub pstart_fits : m ≤ length c.pstart
+  pub pstop_fits : m ≤ length c.pstop

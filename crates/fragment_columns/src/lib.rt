@@ -1,9 +1,9 @@
 // The layout of a rule, written to the lent columns.
 ghost use Rattle.std.specs.Prelude.{◌≡◌, map, ◌≤◌, length};
 ghost use Rattle.spans.specs.Spans.{spans};
-ghost use Rattle.layouts.specs.Given.{bases, markOf};
+ghost use Rattle.layouts.specs.Given.{bases, mark_of};
 ghost use Rattle.layouts.specs.Layout.{owning, layout};
-ghost use Rattle.layouts.specs.Columns.{startsOf, stopsOf, partStart, partStop, columns, holding};
+ghost use Rattle.layouts.specs.Columns.{starts_of, stops_of, part_start, part_stop, columns, holding};
 ghost use Rattle.span_columns.specs.Writing.{Fronts};
 ghost use Rattle.fragment_columns.specs.Ready.{Ready};
 
@@ -13,7 +13,7 @@ use spans::Span;
 
 // Whether the base is present in the fragments.
 fn mark_of(parting: Parting) -> u64
-    ensures { result ≡ markOf parting }
+    ensures { result ≡ mark_of parting }
 {
     match parting {
         Parting::Bare => 0,
@@ -49,7 +49,7 @@ fn lay_parts(
 )
     requires { (length starts.now ≡ length stops.now) × (n ≡ length (bases parting base (spans starts.now stops.now)))
         × (n ≤ length bstart.old) × (n ≤ length bstop.old) }
-    ensures { Fronts (map partStart (bases parting base (spans starts.now stops.now))) (map partStop (bases parting base (spans starts.now stops.now)))
+    ensures { Fronts (map part_start (bases parting base (spans starts.now stops.now))) (map part_stop (bases parting base (spans starts.now stops.now)))
         bstart.old bstop.old bstart.new bstop.new }
 {
     match parting {
@@ -78,7 +78,7 @@ fn lay_ranges(
 )
     requires { (length starts.now ≡ length stops.now) × (n ≡ length (layout rule base (spans starts.now stops.now)).bases) × (m ≡ length (layout rule base (spans starts.now stops.now)).pieces)
         × (n ≤ length from.old) × (n ≤ length to.old) }
-    ensures { Fronts (startsOf (layout rule base (spans starts.now stops.now)).ranges) (stopsOf (layout rule base (spans starts.now stops.now)).ranges)
+    ensures { Fronts (starts_of (layout rule base (spans starts.now stops.now)).ranges) (stops_of (layout rule base (spans starts.now stops.now)).ranges)
         from.old to.old from.new to.new }
 {
     let parting = rule.0;
@@ -102,7 +102,7 @@ fn lay_pieces(
 )
     requires { (length starts.now ≡ length stops.now) × (n ≡ length (layout rule base (spans starts.now stops.now)).bases)
         × (length (layout rule base (spans starts.now stops.now)).pieces ≤ length pstart.old) × (length (layout rule base (spans starts.now stops.now)).pieces ≤ length pstop.old) }
-    ensures { Fronts (startsOf (layout rule base (spans starts.now stops.now)).pieces) (stopsOf (layout rule base (spans starts.now stops.now)).pieces)
+    ensures { Fronts (starts_of (layout rule base (spans starts.now stops.now)).pieces) (stops_of (layout rule base (spans starts.now stops.now)).pieces)
         pstart.old pstop.old pstart.new pstop.new }
 {
     if n == 0 {

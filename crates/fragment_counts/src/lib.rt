@@ -2,9 +2,9 @@
 ghost use Rattle.std.specs.Prelude.{◌≡◌, ◌≤◌, length};
 ghost use Rattle.spans.specs.Spans.{spans};
 ghost use Rattle.layouts.specs.Fragments.{gaps};
-ghost use Rattle.layouts.specs.Given.{given, allGiven, bases};
+ghost use Rattle.layouts.specs.Given.{given, all_given, bases};
 ghost use Rattle.layouts.specs.Layout.{layout};
-ghost use Rattle.layouts.specs.Judged.{allFitting, judged};
+ghost use Rattle.layouts.specs.Judged.{all_fitting, judged};
 
 use fragment_rules::{Giving, Parting, Rule};
 use layouts::{Answer, Refusal};
@@ -25,7 +25,7 @@ pub fn piece_count(giving: Giving, base: Span, r: Span) -> usize
 // How many pieces all records give.
 fn count_pieces(giving: Giving, base: Span, starts: &[u64], stops: &[u64]) -> usize
     requires { length starts.now ≡ length stops.now }
-    ensures { result ≡ length (allGiven giving base (spans starts.now stops.now)) }
+    ensures { result ≡ length (all_given giving base (spans starts.now stops.now)) }
 {
     let mut n: usize = 0;
     let mut i: usize = 0;
@@ -64,7 +64,7 @@ fn count_gaps(base: Span, starts: &[u64], stops: &[u64]) -> usize
 // Whether every record fits the base and the record ahead of it.
 fn are_fitting(base: Span, starts: &[u64], stops: &[u64]) -> bool
     requires { length starts.now ≡ length stops.now }
-    ensures { result ≡ allFitting base 0 (spans starts.now stops.now) }
+    ensures { result ≡ all_fitting base 0 (spans starts.now stops.now) }
 {
     let mut ahead: u64 = 0;
     let mut i: usize = 0;

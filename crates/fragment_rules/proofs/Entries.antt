@@ -12,67 +12,67 @@ use Rattle.fragment_rules.specs.declared.Parting.TheVariants.{Bare, Single, Each
 use Rattle.fragment_rules.specs.declared.Giving.{Giving}
 use Rattle.fragment_rules.specs.declared.Giving.TheVariants.{Nothing, Record, Clip, Outside}
 use Rattle.fragment_rules.specs.declared.Rule.{Rule}
-use Rattle.fragment_rules.specs.Rules.{partingOf, givingOf, ruleOf, place_of}
+use Rattle.fragment_rules.specs.Rules.{parting_of, giving_of, rule_of, place_of}
 use Rattle.fragment_rules.specs.Table.{entry, table}
 use Rattle.fragment_rules.proofs.Table.{both, both_left, both_right, every, row, at2}
 
 -- the choice at a place of the table
-abbrev choiceAt : ℕ → Choice
-choiceAt zero = None
-choiceAt (suc zero) = Whole
-choiceAt (suc (suc zero)) = WholeWide
-choiceAt (suc (suc (suc zero))) = Piece
-choiceAt (suc (suc (suc (suc n)))) = Inverse
+abbrev choice_at : ℕ → Choice
+choice_at zero = None
+choice_at (suc zero) = Whole
+choice_at (suc (suc zero)) = WholeWide
+choice_at (suc (suc (suc zero))) = Piece
+choice_at (suc (suc (suc (suc n)))) = Inverse
 
-choice-at-place : (c : Choice) → choiceAt (place_of c) ≡ c
-choice-at-place None = refl
-choice-at-place Whole = refl
-choice-at-place WholeWide = refl
-choice-at-place Piece = refl
-choice-at-place Inverse = refl
+choice_at_place : (c : Choice) → choice_at (place_of c) ≡ c
+choice_at_place None = refl
+choice_at_place Whole = refl
+choice_at_place WholeWide = refl
+choice_at_place Piece = refl
+choice_at_place Inverse = refl
 
 -- a number for each way to part, and back
-abbrev partingNumber : Parting → ℕ
-partingNumber Bare = 0
-partingNumber Single = 1
-partingNumber EachRecord = 2
-partingNumber EachClip = 3
-partingNumber EachGap = 4
+abbrev parting_number : Parting → ℕ
+parting_number Bare = 0
+parting_number Single = 1
+parting_number EachRecord = 2
+parting_number EachClip = 3
+parting_number EachGap = 4
 
-partingAt : ℕ → Parting
-partingAt zero = Bare
-partingAt (suc zero) = Single
-partingAt (suc (suc zero)) = EachRecord
-partingAt (suc (suc (suc zero))) = EachClip
-partingAt (suc (suc (suc (suc n)))) = EachGap
+parting_at : ℕ → Parting
+parting_at zero = Bare
+parting_at (suc zero) = Single
+parting_at (suc (suc zero)) = EachRecord
+parting_at (suc (suc (suc zero))) = EachClip
+parting_at (suc (suc (suc (suc n)))) = EachGap
 
-parting-back : (p : Parting) → partingAt (partingNumber p) ≡ p
-unfolding partingAt
-parting-back Bare = refl
-parting-back Single = refl
-parting-back EachRecord = refl
-parting-back EachClip = refl
-parting-back EachGap = refl
+parting_back : (p : Parting) → parting_at (parting_number p) ≡ p
+unfolding parting_at
+parting_back Bare = refl
+parting_back Single = refl
+parting_back EachRecord = refl
+parting_back EachClip = refl
+parting_back EachGap = refl
 
 -- a number for each way to give, and back
-abbrev givingNumber : Giving → ℕ
-givingNumber Nothing = 0
-givingNumber Record = 1
-givingNumber Clip = 2
-givingNumber Outside = 3
+abbrev giving_number : Giving → ℕ
+giving_number Nothing = 0
+giving_number Record = 1
+giving_number Clip = 2
+giving_number Outside = 3
 
-givingAt : ℕ → Giving
-givingAt zero = Nothing
-givingAt (suc zero) = Record
-givingAt (suc (suc zero)) = Clip
-givingAt (suc (suc (suc n))) = Outside
+giving_at : ℕ → Giving
+giving_at zero = Nothing
+giving_at (suc zero) = Record
+giving_at (suc (suc zero)) = Clip
+giving_at (suc (suc (suc n))) = Outside
 
-giving-back : (g : Giving) → givingAt (givingNumber g) ≡ g
-unfolding givingAt
-giving-back Nothing = refl
-giving-back Record = refl
-giving-back Clip = refl
-giving-back Outside = refl
+giving_back : (g : Giving) → giving_at (giving_number g) ≡ g
+unfolding giving_at
+giving_back Nothing = refl
+giving_back Record = refl
+giving_back Clip = refl
+giving_back Outside = refl
 
 -- what is equal under a function that can be undone is equal
 by_number : {A : Type 0} (number : A → ℕ) (back : ℕ → A) → ((x : A) → back (number x) ≡ x) → (x y : A) → T (eqb (number x) (number y)) → x ≡ y
@@ -81,16 +81,16 @@ by_number number back law x y t = sym (law x) ∙ ap back (eqb→eq (number x) (
 -- the test of an entry: it is the rule of the choices at its places
 abbrev right : ℕ → ℕ → Rule → Bool
 right i j x =
-    both (eqb (partingNumber x.0) (partingNumber (partingOf (choiceAt i))))
-    (eqb (givingNumber x.1) (givingNumber (givingOf (choiceAt j))))
+    both (eqb (parting_number x.0) (parting_number (parting_of (choice_at i))))
+    (eqb (giving_number x.1) (giving_number (giving_of (choice_at j))))
 
-entry-is : (a b : Choice) (i j : ℕ) (x : Rule) → i ≡ place_of a → j ≡ place_of b → T (right i j x) → x ≡ ruleOf a b
-entry-is a b i j x ea eb t =
-    let p = eqb (partingNumber x.0) (partingNumber (partingOf (choiceAt i))) in
-    let g = eqb (givingNumber x.1) (givingNumber (givingOf (choiceAt j))) in
+entry_is : (a b : Choice) (i j : ℕ) (x : Rule) → i ≡ place_of a → j ≡ place_of b → T (right i j x) → x ≡ rule_of a b
+entry_is a b i j x ea eb t =
+    let p = eqb (parting_number x.0) (parting_number (parting_of (choice_at i))) in
+    let g = eqb (giving_number x.1) (giving_number (giving_of (choice_at j))) in
     ap₂ entry
-    (by_number partingNumber partingAt parting-back x.0 (partingOf (choiceAt i)) (both_left p g t) ∙ ap partingOf (ap choiceAt ea ∙ choice-at-place a))
-    (by_number givingNumber givingAt giving-back x.1 (givingOf (choiceAt j)) (both_right p g t) ∙ ap givingOf (ap choiceAt eb ∙ choice-at-place b))
+    (by_number parting_number parting_at parting_back x.0 (parting_of (choice_at i)) (both_left p g t) ∙ ap parting_of (ap choice_at ea ∙ choice_at_place a))
+    (by_number giving_number giving_at giving_back x.1 (giving_of (choice_at j)) (both_right p g t) ∙ ap giving_of (ap choice_at eb ∙ choice_at_place b))
 
 -- the one computed test: each row has five entries, each the rule of the choices at its places
 all_right : T (every (row right 5) 0 table)
@@ -98,6 +98,6 @@ unfolding table
 all_right = tt
 
 -- the entry at the places of two choices is the rule of the pair
-pub table_is : (a b : Choice) (i j : ℕ) → i ≡ place_of a → j ≡ place_of b → i < 5 → j < 5 → get_or (get_or table i []) j (entry Bare Nothing) ≡ ruleOf a b
+pub table_is : (a b : Choice) (i j : ℕ) → i ≡ place_of a → j ≡ place_of b → i < 5 → j < 5 → get_or (get_or table i []) j (entry Bare Nothing) ≡ rule_of a b
 unfolding table
-table_is a b i j ea eb hi hj = entry-is a b i j _ ea eb (at2 right (entry Bare Nothing) 5 table all_right i j hi hj)
+table_is a b i j ea eb hi hj = entry_is a b i j _ ea eb (at2 right (entry Bare Nothing) 5 table all_right i j hi hj)

@@ -9,24 +9,24 @@ use Rattle.fragment_rules.specs.declared.Giving.TheVariants.{Nothing, Record, Cl
 use Rattle.fragment_rules.specs.declared.Rule.{Rule}
 
 -- where the base parts of a choice for A come from
-abbrev pub partingOf : Choice → Parting
-partingOf None = Bare
-partingOf Whole = EachRecord
-partingOf WholeWide = Single
-partingOf Piece = EachClip
-partingOf Inverse = EachGap
+abbrev pub parting_of : Choice → Parting
+parting_of None = Bare
+parting_of Whole = EachRecord
+parting_of WholeWide = Single
+parting_of Piece = EachClip
+parting_of Inverse = EachGap
 
 -- what a record gives under a choice for B
-abbrev pub givingOf : Choice → Giving
-givingOf None = Nothing
-givingOf Whole = Record
-givingOf WholeWide = Record
-givingOf Piece = Clip
-givingOf Inverse = Outside
+abbrev pub giving_of : Choice → Giving
+giving_of None = Nothing
+giving_of Whole = Record
+giving_of WholeWide = Record
+giving_of Piece = Clip
+giving_of Inverse = Outside
 
 -- the rule of a pair
-abbrev pub ruleOf : Choice → Choice → Rule
-ruleOf a b = record { 0 = partingOf a; 1 = givingOf b }
+abbrev pub rule_of : Choice → Choice → Rule
+rule_of a b = record { 0 = parting_of a; 1 = giving_of b }
 
 -- the place of a choice in the table: the order in which the scope document names them
 abbrev pub place_of : Choice → ℕ

@@ -1,6 +1,6 @@
 // The choices for the base (A) and for the records (B), and the table of their twenty-five pairs: the fragment rule of each.
 ghost use Rattle.std.specs.Prelude.{◌≡◌, ◌<◌};
-ghost use Rattle.fragment_rules.specs.Rules.{ruleOf, place_of};
+ghost use Rattle.fragment_rules.specs.Rules.{rule_of, place_of};
 
 // What to report of the base (A), or of a record (B).
 #[derive(Drop)]
@@ -96,7 +96,7 @@ fn place_of(c: Choice) -> usize
 
 // The rule of a pair.
 pub fn rule_of(a: Choice, b: Choice) -> Rule
-    ensures { result ≡ ruleOf a b }
+    ensures { result ≡ rule_of a b }
 {
     let i = place_of(a);
     let j = place_of(b);

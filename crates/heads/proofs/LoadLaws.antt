@@ -10,7 +10,7 @@ use lib.ListN.{length, length-set, get_or, set}
 use lib.Seq.{get_or-set_same, get_or-set_other}
 use borrow.Author.Tests.{le-leb, lt-leb, leb-true, leb-false, eqb-true, eqb-false}
 use Rattle.basics.specs.Build.{build}
-use Rattle.basics.proofs.BuildLaws.{build-front, build-none, build-same, set-raise}
+use Rattle.basics.proofs.BuildLaws.{build_front, build_none, build_same, set_raise}
 use Rattle.rules.specs.declared.End.{End}
 use Rattle.rules.specs.Rows.{Record, fault}
 use Rattle.heads.specs.declared.Next.{Next}
@@ -18,42 +18,42 @@ use Rattle.heads.specs.declared.Check.{Check}
 use Rattle.heads.specs.declared.Check.TheVariants as the-check
 use Rattle.rules.specs.Streams.{else, check}
 use Rattle.rules.specs.Call.{loading}
-use Rattle.heads.specs.View.{Cols, Heads, row_at, rows_from, behindAt, headAt, rest_at, restsOf, fresh_of}
-use Rattle.least.specs.Fours.{ended?, unlessEnded}
-use Rattle.heads.specs.Move.{nextRecord, checkOf, next_of, ends_at, goes_at, Placed, Shaped}
-use Rattle.heads.specs.Load.{first_of, loadOne, loadTo, wrongFirst, BeginsAs, LoadsAs}
-use Rattle.heads.proofs.CheckLaws.{check-fine, check-wrong}
+use Rattle.heads.specs.View.{Cols, Heads, row_at, rows_from, behind_at, head_at, rest_at, rests_of, fresh_of}
+use Rattle.least.specs.Fours.{is_ended, unless_ended}
+use Rattle.heads.specs.Move.{next_record, check_of, next_of, ends_at, goes_at, Placed, Shaped}
+use Rattle.heads.specs.Load.{first_of, load_one, load_to, wrong_first, BeginsAs, LoadsAs}
+use Rattle.heads.proofs.CheckLaws.{check_fine, check_wrong}
 
 module _ (s : Cols) (n : ℕ) (h : Heads) (k : ℕ) where
   -- no row
-  pub begun-ends : get_or h.to k 0 ≤ get_or h.next k 0 → BeginsAs s n h k the-check.Fine (ends_at h k)
-  unfolding loadOne
-  begun-ends e = record { check = rw (le-leb (get_or h.to k 0) (get_or h.next k 0) e); heads = λ z. rw (le-leb (get_or h.to k 0) (get_or h.next k 0) e) }
+  pub begun_ends : get_or h.to k 0 ≤ get_or h.next k 0 → BeginsAs s n h k the-check.Fine (ends_at h k)
+  unfolding load_one
+  begun_ends e = record { check = rw (le-leb (get_or h.to k 0) (get_or h.next k 0) e); heads = λ z. rw (le-leb (get_or h.to k 0) (get_or h.next k 0) e) }
 
   -- a row: `w` is what was found wrong with it
-  module _ (e : get_or h.next k 0 < get_or h.to k 0) (x : Next) (w : Check) (is : x ≡ first_of s h k) (found : w ≡ checkOf (fault n none (nextRecord (record { 0 = k }) x))) where
-    seen : w ≡ checkOf (fault n none (row_at s (get_or h.from k 0) k (get_or h.next k 0)))
-    seen = found ∙ ap (λ (y : Next). checkOf (fault n none (nextRecord (record { 0 = k }) y))) is
+  module _ (e : get_or h.next k 0 < get_or h.to k 0) (x : Next) (w : Check) (is : x ≡ first_of s h k) (found : w ≡ check_of (fault n none (next_record (record { 0 = k }) x))) where
+    seen : w ≡ check_of (fault n none (row_at s (get_or h.from k 0) k (get_or h.next k 0)))
+    seen = found ∙ ap (λ (y : Next). check_of (fault n none (next_record (record { 0 = k }) y))) is
 
-    begun-by : (g : Heads) → (fault n none (row_at s (get_or h.from k 0) k (get_or h.next k 0)) ≡ none → g ≡ goes_at h k (first_of s h k)) → BeginsAs s n h k w g
-    unfolding loadOne
-    begun-by g f = record { check = rw (lt-leb (get_or h.to k 0) (get_or h.next k 0) e) seen; heads = λ z. rw (lt-leb (get_or h.to k 0) (get_or h.next k 0) e) (f (rw (lt-leb (get_or h.to k 0) (get_or h.next k 0) e) at z)) }
+    begun_by_lem : (g : Heads) → (fault n none (row_at s (get_or h.from k 0) k (get_or h.next k 0)) ≡ none → g ≡ goes_at h k (first_of s h k)) → BeginsAs s n h k w g
+    unfolding load_one
+    begun_by_lem g f = record { check = rw (lt-leb (get_or h.to k 0) (get_or h.next k 0) e) seen; heads = λ z. rw (lt-leb (get_or h.to k 0) (get_or h.next k 0) e) (f (rw (lt-leb (get_or h.to k 0) (get_or h.next k 0) e) at z)) }
 
-    pub begun-wrong : (y : End) → w ≡ the-check.Wrong y → BeginsAs s n h k (the-check.Wrong y) h
-    begun-wrong y q =
-        let z : fault n none (row_at s (get_or h.from k 0) k (get_or h.next k 0)) ≡ some y = check-wrong (fault n none (row_at s (get_or h.from k 0) k (get_or h.next k 0))) y (sym seen ∙ q) in
-        rw (← q) (begun-by h (λ v. let u : ◌≡◌ {A = ℕ} 0 1 = cc in absurd (omega arith)))
+    pub begun_wrong : (y : End) → w ≡ the-check.Wrong y → BeginsAs s n h k (the-check.Wrong y) h
+    begun_wrong y q =
+        let z : fault n none (row_at s (get_or h.from k 0) k (get_or h.next k 0)) ≡ some y = check_wrong (fault n none (row_at s (get_or h.from k 0) k (get_or h.next k 0))) y (sym seen ∙ q) in
+        rw (← q) (begun_by_lem h (λ v. let u : ◌≡◌ {A = ℕ} 0 1 = cc in absurd (omega arith)))
 
-    pub begun-goes : w ≡ the-check.Fine → BeginsAs s n h k the-check.Fine (goes_at h k x)
-    begun-goes q = rw (← q) (begun-by (goes_at h k x) (λ v. ap (goes_at h k) is))
+    pub begun_goes : w ≡ the-check.Fine → BeginsAs s n h k the-check.Fine (goes_at h k x)
+    begun_goes q = rw (← q) (begun_by_lem (goes_at h k x) (λ v. ap (goes_at h k) is))
 
 -- what is wrong with the first row is what its check says
-wrong-check : (s : Cols) (n : ℕ) (h : Heads) (k : ℕ) → wrongFirst s n h k ≡ check n none (behindAt s h k)
-wrong-check s n h k = go (leb (get_or h.to k 0) (get_or h.next k 0)) refl
+wrong_check : (s : Cols) (n : ℕ) (h : Heads) (k : ℕ) → wrong_first s n h k ≡ check n none (behind_at s h k)
+wrong_check s n h k = go (leb (get_or h.to k 0) (get_or h.next k 0)) refl
   where
-    go : (t : Bool) → leb (get_or h.to k 0) (get_or h.next k 0) ≡ t → cond t none (fault n none (row_at s (get_or h.from k 0) k (get_or h.next k 0))) ≡ check n none (behindAt s h k)
-    go true e = rw (build-none (row_at s (get_or h.from k 0) k) (get_or h.to k 0) (get_or h.next k 0) (leb-true (get_or h.to k 0) (get_or h.next k 0) e))
-    go false e = rw (build-front (row_at s (get_or h.from k 0) k) (get_or h.to k 0) (get_or h.next k 0) (leb-false (get_or h.to k 0) (get_or h.next k 0) e))
+    go : (t : Bool) → leb (get_or h.to k 0) (get_or h.next k 0) ≡ t → cond t none (fault n none (row_at s (get_or h.from k 0) k (get_or h.next k 0))) ≡ check n none (behind_at s h k)
+    go true e = rw (build_none (row_at s (get_or h.from k 0) k) (get_or h.to k 0) (get_or h.next k 0) (leb-true (get_or h.to k 0) (get_or h.next k 0) e))
+    go false e = rw (build_front (row_at s (get_or h.from k 0) k) (get_or h.to k 0) (get_or h.next k 0) (leb-false (get_or h.to k 0) (get_or h.next k 0) e))
 
 -- what loading the first head of stream k does
 pub record Opened (s : Cols) (h g : Heads) (k : ℕ) : Type 0 where
@@ -62,13 +62,13 @@ pub record Opened (s : Cols) (h g : Heads) (k : ℕ) : Type 0 where
   pub streams : g.streams ≡ h.streams
   pub from : g.from ≡ h.from
   pub to : g.to ≡ h.to
-  pub here : rest_at s g k ≡ behindAt s h k
+  pub here : rest_at s g k ≡ behind_at s h k
   pub rest : (j : ℕ) → (j ≡ k → ⊥) → rest_at s g j ≡ rest_at s h j
   pub next : (j : ℕ) → (j ≡ k → ⊥) → get_or g.next j 0 ≡ get_or h.next j 0
 
 module _ (s : Cols) (h : Heads) (k : ℕ) (in8 : Shaped h) (p : Placed s h.streams h.next h.from h.to) (below : k < h.streams) where
-  opened-ends : get_or h.to k 0 ≤ get_or h.next k 0 → Opened s h (ends_at h k) k
-  opened-ends e =
+  opened_ends : get_or h.to k 0 ≤ get_or h.next k 0 → Opened s h (ends_at h k) k
+  opened_ends e =
       let in_d : k < length h.ended = omega (arith, in8.ended, p.few) in
       record {
         shaped = record { chrom = in8.chrom; start = in8.start; stop = in8.stop; row = in8.row; ended = length-set h.ended k 1 ∙ in8.ended; next = in8.next };
@@ -76,13 +76,13 @@ module _ (s : Cols) (h : Heads) (k : ℕ) (in8 : Shaped h) (p : Placed s h.strea
         streams = refl;
         from = refl;
         to = refl;
-        here = rw (get_or-set_same h.ended k 1 0 in_d, build-none (row_at s (get_or h.from k 0) k) (get_or h.to k 0) (get_or h.next k 0) e);
+        here = rw (get_or-set_same h.ended k 1 0 in_d, build_none (row_at s (get_or h.from k 0) k) (get_or h.to k 0) (get_or h.next k 0) e);
         rest = λ j f. simp get_or-set_other;
         next = λ j f. refl;
       }
 
-  opened-goes : get_or h.next k 0 < get_or h.to k 0 → Opened s h (goes_at h k (first_of s h k)) k
-  opened-goes e =
+  opened_goes : get_or h.next k 0 < get_or h.to k 0 → Opened s h (goes_at h k (first_of s h k)) k
+  opened_goes e =
       let in_c : k < length h.chrom = omega (arith, in8.chrom, p.few) in
       let in_a : k < length h.start = omega (arith, in8.start, p.few) in
       let inE : k < length h.stop = omega (arith, in8.stop, p.few) in
@@ -91,22 +91,22 @@ module _ (s : Cols) (h : Heads) (k : ℕ) (in8 : Shaped h) (p : Placed s h.strea
       let inN : k < length h.next = omega (arith, in8.next, p.few) in
       record {
         shaped = record { chrom = length-set h.chrom k _ ∙ in8.chrom; start = length-set h.start k _ ∙ in8.start; stop = length-set h.stop k _ ∙ in8.stop; row = length-set h.row k _ ∙ in8.row; ended = length-set h.ended k 0 ∙ in8.ended; next = length-set h.next k _ ∙ in8.next };
-        placed = record { few = p.few; starts = p.starts; stops = p.stops; low = λ j b. omega (arith, p.low j b, set-raise h.next k (get_or h.next k 0 + 1) j (omega arith)); high = p.high };
+        placed = record { few = p.few; starts = p.starts; stops = p.stops; low = λ j b. omega (arith, p.low j b, set_raise h.next k (get_or h.next k 0 + 1) j (omega arith)); high = p.high };
         streams = refl;
         from = refl;
         to = refl;
-        here = rw (build-front (row_at s (get_or h.from k 0) k) (get_or h.to k 0) (get_or h.next k 0) e) (simp (get_or-set_same, in_c, in_a, inE, in_r, in_d, inN));
+        here = rw (build_front (row_at s (get_or h.from k 0) k) (get_or h.to k 0) (get_or h.next k 0) e) (simp (get_or-set_same, in_c, in_a, inE, in_r, in_d, inN));
         rest = λ j f. simp get_or-set_other;
         next = λ j f. get_or-set_other h.next k j _ 0 f;
       }
 
-  pub opened : Opened s h (loadOne s h k) k
-  unfolding loadOne
+  pub opened : Opened s h (load_one s h k) k
+  unfolding load_one
   opened = go (leb (get_or h.to k 0) (get_or h.next k 0)) refl
     where
       go : (t : Bool) → leb (get_or h.to k 0) (get_or h.next k 0) ≡ t → Opened s h (cond t (ends_at h k) (goes_at h k (first_of s h k))) k
-      go true e = opened-ends (leb-true (get_or h.to k 0) (get_or h.next k 0) e)
-      go false e = opened-goes (leb-false (get_or h.to k 0) (get_or h.next k 0) e)
+      go true e = opened_ends (leb-true (get_or h.to k 0) (get_or h.next k 0) e)
+      go false e = opened_goes (leb-false (get_or h.to k 0) (get_or h.next k 0) e)
 
 -- the first k heads are loaded, the others are not
 pub record Upto (s : Cols) (h g : Heads) (k : ℕ) : Type 0 where
@@ -115,22 +115,22 @@ pub record Upto (s : Cols) (h g : Heads) (k : ℕ) : Type 0 where
   pub streams : g.streams ≡ h.streams
   pub from : g.from ≡ h.from
   pub to : g.to ≡ h.to
-  pub done : (j : ℕ) → j < k → rest_at s g j ≡ behindAt s h j
+  pub done : (j : ℕ) → j < k → rest_at s g j ≡ behind_at s h j
   pub todo : (j : ℕ) → k ≤ j → get_or g.next j 0 ≡ get_or h.next j 0
 
-behind-same : (s : Cols) (h g : Heads) (j : ℕ) → g.from ≡ h.from → g.to ≡ h.to → get_or g.next j 0 ≡ get_or h.next j 0 → behindAt s g j ≡ behindAt s h j
-behind-same s h g j a b c = rw (a, b, c)
+behind_same : (s : Cols) (h g : Heads) (j : ℕ) → g.from ≡ h.from → g.to ≡ h.to → get_or g.next j 0 ≡ get_or h.next j 0 → behind_at s g j ≡ behind_at s h j
+behind_same s h g j a b c = rw (a, b, c)
 
 -- the loop over the streams, from the heads h: g are the heads at stream k
 pub record Loading (s : Cols) (n : ℕ) (h g : Heads) (k : ℕ) : Type 0 where
-  pub is : g ≡ loadTo s h k
+  pub is : g ≡ load_to s h k
   pub within : k ≤ h.streams
-  pub same : loading n (build (behindAt s h) (h.streams - k) k) ≡ loading n (fresh_of s h)
+  pub same : loading n (build (behind_at s h) (h.streams - k) k) ≡ loading n (fresh_of s h)
 
 module _ (s : Cols) (h : Heads) (in8 : Shaped h) (p : Placed s h.streams h.next h.from h.to) where
-  upto_next : (g : Heads) (k : ℕ) → k < h.streams → Upto s h g k → Upto s h (loadOne s g k) (suc k)
+  upto_next : (g : Heads) (k : ℕ) → k < h.streams → Upto s h g k → Upto s h (load_one s g k) (suc k)
   upto_next g k below u =
-      let o : Opened s g (loadOne s g k) k = opened s g k u.shaped u.placed (rw u.streams below) in
+      let o : Opened s g (load_one s g k) k = opened s g k u.shaped u.placed (rw u.streams below) in
       record {
         shaped = o.shaped;
         placed = o.placed;
@@ -141,60 +141,60 @@ module _ (s : Cols) (h : Heads) (in8 : Shaped h) (p : Placed s h.streams h.next 
         todo = λ j b. o.next j (λ e. omega (arith, b, e)) ∙ u.todo j (omega (arith, b));
       }
     where
-      go : Opened s g (loadOne s g k) k → (j : ℕ) → j < suc k → (t : Bool) → eqb j k ≡ t → rest_at s (loadOne s g k) j ≡ behindAt s h j
-      go o j b true e = rw (eqb-true j k e) (o.here ∙ behind-same s h g k u.from u.to (u.todo k (omega arith)))
+      go : Opened s g (load_one s g k) k → (j : ℕ) → j < suc k → (t : Bool) → eqb j k ≡ t → rest_at s (load_one s g k) j ≡ behind_at s h j
+      go o j b true e = rw (eqb-true j k e) (o.here ∙ behind_same s h g k u.from u.to (u.todo k (omega arith)))
       go o j b false e = o.rest j (eqb-false j k e) ∙ u.done j (omega (arith, b, eqb-false j k e))
 
-  pub upto : (k : ℕ) → k ≤ h.streams → Upto s h (loadTo s h k) k
-  unfolding loadTo
+  pub upto : (k : ℕ) → k ≤ h.streams → Upto s h (load_to s h k) k
+  unfolding load_to
   upto zero b = record { shaped = in8; placed = p; streams = refl; from = refl; to = refl; done = λ j a. absurd (omega (arith, a)); todo = λ j a. refl }
-  upto (suc k) b = upto_next (loadTo s h k) k (omega arith) (upto k (omega arith))
+  upto (suc k) b = upto_next (load_to s h k) k (omega arith) (upto k (omega arith))
 
   -- loaded heads stand for the streams' rows
-  pub load-rests : restsOf s (loadTo s h h.streams) ≡ fresh_of s h
-  unfolding restsOf fresh_of
-  load-rests =
-      let u : Upto s h (loadTo s h h.streams) h.streams = upto h.streams (omega arith) in
-      rw u.streams (build-same (behindAt s h) (rest_at s (loadTo s h h.streams)) h.streams 0 (λ j a b. u.done j (omega (arith, b))))
+  pub load_rests : rests_of s (load_to s h h.streams) ≡ fresh_of s h
+  unfolding rests_of fresh_of
+  load_rests =
+      let u : Upto s h (load_to s h h.streams) h.streams = upto h.streams (omega arith) in
+      rw u.streams (build_same (behind_at s h) (rest_at s (load_to s h h.streams)) h.streams 0 (λ j a b. u.done j (omega (arith, b))))
 
   module _ (n : ℕ) where
-    pub load-starts : Loading s n h h 0
-    unfolding loadTo fresh_of
-    load-starts = let z : h.streams - 0 ≡ h.streams = omega arith in record { is = refl; within = omega arith; same = rw z }
+    pub load_starts : Loading s n h h 0
+    unfolding load_to fresh_of
+    load_starts = let z : h.streams - 0 ≡ h.streams = omega arith in record { is = refl; within = omega arith; same = rw z }
 
-    pub load-placed : (g : Heads) (k : ℕ) → Loading s n h g k → Upto s h g k
-    load-placed g k l = rw l.is (upto k l.within)
+    pub load_placed : (g : Heads) (k : ℕ) → Loading s n h g k → Upto s h g k
+    load_placed g k l = rw l.is (upto k l.within)
 
     -- the next stream's first row
-    turn : (g : Heads) (k : ℕ) → Loading s n h g k → k < h.streams → else (wrongFirst s n g k) (loading n (build (behindAt s h) (h.streams - (k + 1)) (k + 1))) ≡ loading n (fresh_of s h)
+    turn : (g : Heads) (k : ℕ) → Loading s n h g k → k < h.streams → else (wrong_first s n g k) (loading n (build (behind_at s h) (h.streams - (k + 1)) (k + 1))) ≡ loading n (fresh_of s h)
     turn g k l b =
-        let u : Upto s h g k = load-placed g k l in
-        let w : wrongFirst s n g k ≡ check n none (behindAt s h k) = wrong-check s n g k ∙ ap (check n none) (behind-same s h g k u.from u.to (u.todo k (omega arith))) in
-        rw w (rw (build-front (behindAt s h) h.streams k b) at l.same)
+        let u : Upto s h g k = load_placed g k l in
+        let w : wrong_first s n g k ≡ check n none (behind_at s h k) = wrong_check s n g k ∙ ap (check n none) (behind_same s h g k u.from u.to (u.todo k (omega arith))) in
+        rw w (rw (build_front (behind_at s h) h.streams k b) at l.same)
 
     -- w is what was found at stream k, and g' the heads after it
     module _ (g : Heads) (k : ℕ) (l : Loading s n h g k) (b : k < h.streams) (w : Check) (g' : Heads) (x : BeginsAs s n g k w g') where
-      pub load-stops : (e : End) (m : Heads) → w ≡ the-check.Wrong e → LoadsAs s n h (the-check.Wrong e) m
-      load-stops e m q =
-          let z : wrongFirst s n g k ≡ some e = check-wrong (wrongFirst s n g k) e (sym x.check ∙ q) in
+      pub load_stops : (e : End) (m : Heads) → w ≡ the-check.Wrong e → LoadsAs s n h (the-check.Wrong e) m
+      load_stops e m q =
+          let z : wrong_first s n g k ≡ some e = check_wrong (wrong_first s n g k) e (sym x.check ∙ q) in
           let y : some e ≡ loading n (fresh_of s h) = rw z at (turn g k l b) in
-          record { check = ap checkOf y; heads = λ v. let u : ◌≡◌ {A = ℕ} 0 1 = cc in absurd (omega arith) }
+          record { check = ap check_of y; heads = λ v. let u : ◌≡◌ {A = ℕ} 0 1 = cc in absurd (omega arith) }
 
       pub load_goes : w ≡ the-check.Fine → Loading s n h g' (k + 1)
-      unfolding loadTo
+      unfolding load_to
       load_goes q =
-          let z : wrongFirst s n g k ≡ none = check-fine (wrongFirst s n g k) (sym x.check ∙ q) in
+          let z : wrong_first s n g k ≡ none = check_fine (wrong_first s n g k) (sym x.check ∙ q) in
           let one_on : k + 1 ≡ suc k = omega arith in
           record { is = x.heads z ∙ rw (l.is, one_on); within = omega arith; same = rw z at (turn g k l b) }
 
-    pub load-ends : (g : Heads) (k : ℕ) → Loading s n h g k → h.streams ≤ k → LoadsAs s n h the-check.Fine g
+    pub load_ends : (g : Heads) (k : ℕ) → Loading s n h g k → h.streams ≤ k → LoadsAs s n h the-check.Fine g
     unfolding build
-    load-ends g k l b =
+    load_ends g k l b =
         let z : h.streams - k ≡ 0 = omega arith in
         let y : k ≡ h.streams = omega (arith, l.within) in
         let none-wrong : none ≡ loading n (fresh_of s h) = rw z at l.same in
-        record { check = ap checkOf none-wrong; heads = λ v. l.is ∙ ap (loadTo s h) y }
+        record { check = ap check_of none-wrong; heads = λ v. l.is ∙ ap (load_to s h) y }
 
     -- the heads that were loaded with nothing wrong
-    pub loaded-upto : (w : Check) (g : Heads) → LoadsAs s n h w g → w ≡ the-check.Fine → Upto s h g h.streams
-    loaded-upto w g x q = rw (x.heads (check-fine (loading n (fresh_of s h)) (sym x.check ∙ q))) (upto h.streams (omega arith))
+    pub loaded_upto : (w : Check) (g : Heads) → LoadsAs s n h w g → w ≡ the-check.Fine → Upto s h g h.streams
+    loaded_upto w g x q = rw (x.heads (check_fine (loading n (fresh_of s h)) (sym x.check ∙ q))) (upto h.streams (omega arith))

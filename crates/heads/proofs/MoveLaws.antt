@@ -8,7 +8,7 @@ use native.Mathlib.Omega.{arith}
 use lib.ListN.{length, get_or, set}
 use Rattle.basics.specs.Lists.{total}
 use Rattle.basics.specs.Build.{build}
-use Rattle.basics.proofs.BuildLaws.{build-get, build-length, build-front, build-none}
+use Rattle.basics.proofs.BuildLaws.{build_get, build_length, build_front, build_none}
 use Rattle.rules.specs.declared.Base.{Base}
 use Rattle.rules.specs.declared.End.{End}
 use Rattle.rules.specs.Rows.{Record, fault}
@@ -22,14 +22,14 @@ use Rattle.heads.specs.declared.Then.TheVariants as then
 use Rattle.heads.specs.declared.Move.{Move}
 use Rattle.heads.specs.declared.Move.TheVariants as move
 use Rattle.heads.specs.View.{Cols, row_at, rows_from}
-use Rattle.least.specs.Fours.{recordFrom, unlessEnded, left_at, ended?}
-use Rattle.least.specs.Least.{head_of, bestOf, leastIn}
+use Rattle.least.specs.Fours.{record_from, unless_ended, left_at, is_ended}
+use Rattle.least.specs.Least.{head_of, best_of, least_in}
 use Rattle.heads.specs.declared.Next.{Next}
 use Rattle.heads.specs.declared.Check.{Check}
 use Rattle.heads.specs.declared.Check.TheVariants as check
-use Rattle.heads.specs.Move.{bestRecord, checkOf, taken_of, next_of, takes, move_of, behindBy}
-use Rattle.heads.proofs.CheckLaws.{check-fine, check-wrong}
-use Rattle.least.proofs.LeastLaws.{own-number, least-pick}
+use Rattle.heads.specs.Move.{best_record, check_of, taken_of, next_of, takes, move_of, behind_by}
+use Rattle.heads.proofs.CheckLaws.{check_fine, check_wrong}
+use Rattle.least.proofs.LeastLaws.{own_number, least_pick}
 
 module _ (q : List (List ℕ)) (ended : List ℕ) (behind : ℕ → List Record) (n : ℕ) (few : n ≤ 8) where
   abbrev ss : List (List Record)
@@ -38,21 +38,21 @@ module _ (q : List (List ℕ)) (ended : List ℕ) (behind : ℕ → List Record)
   -- the head h is chosen: it and the rows behind it are what is left of its stream
   pub record Chosen (h : Best) : Type 0 where
     pub others : List (List Record)
-    pub is : pick ahead ss ≡ one (bestRecord h) (behind h.stream.0) others
+    pub is : pick ahead ss ≡ one (best_record h) (behind h.stream.0) others
     pub inside : h.stream.0 < n
 
-  rest-is : (k : ℕ) (dead : Bool) (l : List ℕ) (xs : List Record) {y : Record} {rest : List Record} → unlessEnded dead (recordFrom k l ∷ xs) ≡ y ∷ rest → rest ≡ xs
-  rest-is k true l xs e = let z : ◌≡◌ {A = ℕ} 0 1 = cc in absurd (omega arith)
-  rest-is k false l xs e = cc
+  rest_is : (k : ℕ) (dead : Bool) (l : List ℕ) (xs : List Record) {y : Record} {rest : List Record} → unless_ended dead (record_from k l ∷ xs) ≡ y ∷ rest → rest ≡ xs
+  rest_is k true l xs e = let z : ◌≡◌ {A = ℕ} 0 1 = cc in absurd (omega arith)
+  rest_is k false l xs e = cc
 
-  alive : (k : ℕ) (dead : Bool) (l : List ℕ) (xs : List Record) {y : Record} {rest : List Record} → unlessEnded dead (recordFrom k l ∷ xs) ≡ y ∷ rest → dead ≡ false
+  alive : (k : ℕ) (dead : Bool) (l : List ℕ) (xs : List Record) {y : Record} {rest : List Record} → unless_ended dead (record_from k l ∷ xs) ≡ y ∷ rest → dead ≡ false
   alive k true l xs e = let z : ◌≡◌ {A = ℕ} 0 1 = cc in absurd (omega arith)
   alive k false l xs e = refl
 
   -- where a picked record stands, and the lists without it
   pub record Standing (a : Record) (rest : List Record) (ts : List (List Record)) : Type 0 where
     pub place : a.stream.0 < n
-    pub goes_on : ended? (get_or ended a.stream.0 0) ≡ false
+    pub goes_on : is_ended (get_or ended a.stream.0 0) ≡ false
     pub after : rest ≡ behind a.stream.0
     pub without : ts ≡ set ss a.stream.0 rest
     pub fewer : total ss ≡ suc (total ts)
@@ -61,54 +61,54 @@ module _ (q : List (List ℕ)) (ended : List ℕ) (behind : ℕ → List Record)
   standing a rest ts z =
       let w : Took ss a rest ts = picked ahead ss (one a rest ts) z in
       let k : ℕ = w.at in
-      let inside : k < n = rw (build-length (left_at q ended behind) n 0) at w.inside in
+      let inside : k < n = rw (build_length (left_at q ended behind) n 0) at w.inside in
       let zero-add : 0 + k ≡ k = omega arith in
-      let here : left_at q ended behind k ≡ a ∷ rest = rw zero-add at (sym (build-get (left_at q ended behind) n 0 k [] inside) ∙ w.here) in
-      let mine : a.stream.0 ≡ k = own-number q ended behind n few k (ended? (get_or ended k 0)) (get_or q k []) (behind k) here in
+      let here : left_at q ended behind k ≡ a ∷ rest = rw zero-add at (sym (build_get (left_at q ended behind) n 0 k [] inside) ∙ w.here) in
+      let mine : a.stream.0 ≡ k = own_number q ended behind n few k (is_ended (get_or ended k 0)) (get_or q k []) (behind k) here in
       record {
         place = omega arith;
-        goes_on = rw mine (alive k (ended? (get_or ended k 0)) (get_or q k []) (behind k) here);
-        after = rest-is k (ended? (get_or ended k 0)) (get_or q k []) (behind k) here ∙ ap behind (sym mine);
+        goes_on = rw mine (alive k (is_ended (get_or ended k 0)) (get_or q k []) (behind k) here);
+        after = rest_is k (is_ended (get_or ended k 0)) (get_or q k []) (behind k) here ∙ ap behind (sym mine);
         without = w.put ∙ ap (λ (i : ℕ). set ss i rest) (sym mine);
         fewer = w.fewer;
       }
 
-  pub chosen : (h : Best) → h ≡ leastIn q ended n → (h.stream.0 ≡ 8 → ⊥) → Chosen h
+  pub chosen : (h : Best) → h ≡ least_in q ended n → (h.stream.0 ≡ 8 → ⊥) → Chosen h
   chosen h e f = go (pick ahead ss) refl
     where
       go : (o : Pick Record) → pick ahead ss ≡ o → Chosen h
-      go none z = absurd (f (ap (λ (b : Best). b.stream.0) (e ∙ least-pick q ended behind n few ∙ ap bestOf z)))
+      go none z = absurd (f (ap (λ (b : Best). b.stream.0) (e ∙ least_pick q ended behind n few ∙ ap best_of z)))
       go (one a rest ts) z =
-          let is : h ≡ head_of a = e ∙ least-pick q ended behind n few ∙ ap bestOf z in
+          let is : h ≡ head_of a = e ∙ least_pick q ended behind n few ∙ ap best_of z in
           let w : Standing a rest ts = standing a rest ts z in
-          let same : bestRecord h ≡ a = ap bestRecord is in
+          let same : best_record h ≡ a = ap best_record is in
           let place : h.stream.0 ≡ a.stream.0 = ap (λ (b : Best). b.stream.0) is in
           record {
             others = ts;
-            is = z ∙ ap (λ (r : Record). one r rest ts) (sym same) ∙ ap (λ (l : List Record). one (bestRecord h) l ts) (w.after ∙ ap behind (sym place));
+            is = z ∙ ap (λ (r : Record). one r rest ts) (sym same) ∙ ap (λ (l : List Record). one (best_record h) l ts) (w.after ∙ ap behind (sym place));
             inside = omega (arith, w.place);
           }
 
   -- no head stays; nor is a head taken that is not to be
-  pub stays-none : (N : ℕ) (b : Base) (nexts : List ℕ) (h : Best) → h ≡ leastIn q ended n → h.stream.0 ≡ 8 → move_of N b nexts (pick ahead ss) ≡ move.Stay h
+  pub stays_none : (N : ℕ) (b : Base) (nexts : List ℕ) (h : Best) → h ≡ least_in q ended n → h.stream.0 ≡ 8 → move_of N b nexts (pick ahead ss) ≡ move.Stay h
   unfolding move_of
-  stays-none N b nexts h e f = go (pick ahead ss) refl
+  stays_none N b nexts h e f = go (pick ahead ss) refl
     where
       go : (o : Pick Record) → pick ahead ss ≡ o → move_of N b nexts o ≡ move.Stay h
-      go none z = ap move.Stay (sym (e ∙ least-pick q ended behind n few ∙ ap bestOf z))
+      go none z = ap move.Stay (sym (e ∙ least_pick q ended behind n few ∙ ap best_of z))
       go (one a rest ts) z =
-          let is : h ≡ head_of a = e ∙ least-pick q ended behind n few ∙ ap bestOf z in
+          let is : h ≡ head_of a = e ∙ least_pick q ended behind n few ∙ ap best_of z in
           absurd (omega (arith, ap (λ (b : Best). b.stream.0) is, (standing a rest ts z).place))
 
   module _ (N : ℕ) (b : Base) (nexts : List ℕ) (h : Best) (c : Chosen h) where
-    pub stays-untaken : taken b (bestRecord h) ≡ false → move_of N b nexts (pick ahead ss) ≡ move.Stay h
+    pub stays_untaken : taken b (best_record h) ≡ false → move_of N b nexts (pick ahead ss) ≡ move.Stay h
     unfolding move_of
-    stays-untaken e = rw (c.is, e)
+    stays_untaken e = rw (c.is, e)
 
-    pub takes-chosen : taken b (bestRecord h) ≡ true
-        → move_of N b nexts (pick ahead ss) ≡ takes (taken_of b (bestRecord h)) (get_or nexts h.stream.0 0 + 1) (next N (bestRecord h) (behind h.stream.0)) (behind h.stream.0)
+    pub takes_chosen : taken b (best_record h) ≡ true
+        → move_of N b nexts (pick ahead ss) ≡ takes (taken_of b (best_record h)) (get_or nexts h.stream.0 0 + 1) (next N (best_record h) (behind h.stream.0)) (behind h.stream.0)
     unfolding move_of
-    takes-chosen e = rw (c.is, e)
+    takes_chosen e = rw (c.is, e)
 
 -- what is taken depends on the first of the rows behind alone
 pub takes_first : (t : Taken) (place : ℕ) (o : Option End) (x : Record) (l : List Record) → takes t place o (x ∷ l) ≡ takes t place o (x ∷ [])
@@ -117,38 +117,38 @@ takes_first t place (Option.some e) x l = refl
 
 -- the rows behind a head: none, or the one at the next place
 module _ (N : ℕ) (s : Cols) (from to k at : ℕ) (t : Taken) (a : Record) where
-  pub takes-last : to ≤ at → takes t (at + 1) (next N a (rows_from s from to k at)) (rows_from s from to k at) ≡ move.Takes t then.Ends
-  takes-last h = rw (build-none (row_at s from k) to at h)
+  pub takes_last : to ≤ at → takes t (at + 1) (next N a (rows_from s from to k at)) (rows_from s from to k at) ≡ move.Takes t then.Ends
+  takes_last h = rw (build_none (row_at s from k) to at h)
 
-  pub takes-more : at < to → takes t (at + 1) (next N a (rows_from s from to k at)) (rows_from s from to k at)
+  pub takes_more : at < to → takes t (at + 1) (next N a (rows_from s from to k at)) (rows_from s from to k at)
       ≡ takes t (at + 1) (fault N (Option.some a.it) (row_at s from k at)) (row_at s from k at ∷ [])
-  takes-more h = rw (build-front (row_at s from k) to at h) (takes_first t (at + 1) (fault N (Option.some a.it) (row_at s from k at)) (row_at s from k at) (build (row_at s from k) (to - (at + 1)) (at + 1)))
+  takes_more h = rw (build_front (row_at s from k) to at h) (takes_first t (at + 1) (fault N (Option.some a.it) (row_at s from k at)) (row_at s from k at) (build (row_at s from k) (to - (at + 1)) (at + 1)))
 
 -- the row that was read, and what was found wrong with it
-pub followed-wrong : (t : Taken) (place : ℕ) (o : Option End) (x : Record) {w : Check} {e : End} → w ≡ checkOf o → w ≡ check.Wrong e → move.Wrong e ≡ takes t place o (x ∷ [])
-followed-wrong t place o x {e} p q = rw (check-wrong o e (sym p ∙ q))
+pub followed_wrong : (t : Taken) (place : ℕ) (o : Option End) (x : Record) {w : Check} {e : End} → w ≡ check_of o → w ≡ check.Wrong e → move.Wrong e ≡ takes t place o (x ∷ [])
+followed_wrong t place o x {e} p q = rw (check_wrong o e (sym p ∙ q))
 
-pub followed-fine : (t : Taken) (place : ℕ) (o : Option End) (x : Record) {w : Check} {y : Next} → w ≡ checkOf o → w ≡ check.Fine → y ≡ next_of x place → move.Takes t (then.Goes y) ≡ takes t place o (x ∷ [])
-followed-fine t place o x p q r = rw (check-fine o (sym p ∙ q), r)
+pub followed_fine : (t : Taken) (place : ℕ) (o : Option End) (x : Record) {w : Check} {y : Next} → w ≡ check_of o → w ≡ check.Fine → y ≡ next_of x place → move.Takes t (then.Goes y) ≡ takes t place o (x ∷ [])
+followed_fine t place o x p q r = rw (check_fine o (sym p ∙ q), r)
 
 -- the turn of a head that is taken, from the rows behind the heads
 module _ (q : List (List ℕ)) (ended : List ℕ) (s : Cols) (nexts from to : List ℕ) (n : ℕ) (few : n ≤ 8) (N : ℕ) (b : Base) (h : Best)
-    (c : Chosen q ended (behindBy s nexts from to) n few h) (v : Bool) (lives : v ≡ live b (bestRecord h)) (t : taken b (bestRecord h) ≡ true) (k : ℕ) (place : k ≡ h.stream.0) where
-  abbrev pub head-taken : Taken
-  head-taken = record { stream = h.stream; live = v; row = h.row; start = h.start; stop = h.stop }
+    (c : Chosen q ended (behind_by s nexts from to) n few h) (v : Bool) (lives : v ≡ live b (best_record h)) (t : taken b (best_record h) ≡ true) (k : ℕ) (place : k ≡ h.stream.0) where
+  abbrev pub head_taken : Taken
+  head_taken = record { stream = h.stream; live = v; row = h.row; start = h.start; stop = h.stop }
 
   abbrev answer : Move
-  answer = move_of N b nexts (pick ahead (build (left_at q ended (behindBy s nexts from to)) n 0))
+  answer = move_of N b nexts (pick ahead (build (left_at q ended (behind_by s nexts from to)) n 0))
 
-  turns : answer ≡ takes head-taken (get_or nexts k 0 + 1) (next N (bestRecord h) (behindBy s nexts from to k)) (behindBy s nexts from to k)
-  turns = takes-chosen q ended (behindBy s nexts from to) n few N b nexts h c t ∙ rw (lives, place)
+  turns : answer ≡ takes head_taken (get_or nexts k 0 + 1) (next N (best_record h) (behind_by s nexts from to k)) (behind_by s nexts from to k)
+  turns = takes_chosen q ended (behind_by s nexts from to) n few N b nexts h c t ∙ rw (lives, place)
 
-  pub decided-ends : get_or to k 0 ≤ get_or nexts k 0 → move.Takes head-taken then.Ends ≡ answer
-  decided-ends e = sym (turns ∙ takes-last N s (get_or from k 0) (get_or to k 0) k (get_or nexts k 0) head-taken (bestRecord h) e)
+  pub decided_ends : get_or to k 0 ≤ get_or nexts k 0 → move.Takes head_taken then.Ends ≡ answer
+  decided_ends e = sym (turns ∙ takes_last N s (get_or from k 0) (get_or to k 0) k (get_or nexts k 0) head_taken (best_record h) e)
 
   -- from the row that stands at the next place, as one of stream i
   abbrev by_row : ℕ → Move
-  by_row i = takes head-taken (get_or nexts k 0 + 1) (fault N (Option.some (bestRecord h).it) (row_at s (get_or from k 0) i (get_or nexts k 0))) (row_at s (get_or from k 0) i (get_or nexts k 0) ∷ [])
+  by_row i = takes head_taken (get_or nexts k 0 + 1) (fault N (Option.some (best_record h).it) (row_at s (get_or from k 0) i (get_or nexts k 0))) (row_at s (get_or from k 0) i (get_or nexts k 0) ∷ [])
 
-  pub decided-follows : (r : Move) → get_or nexts k 0 < get_or to k 0 → r ≡ by_row h.stream.0 → r ≡ answer
-  decided-follows r e z = z ∙ ap by_row (sym place) ∙ sym (turns ∙ takes-more N s (get_or from k 0) (get_or to k 0) k (get_or nexts k 0) head-taken (bestRecord h) e)
+  pub decided_follows : (r : Move) → get_or nexts k 0 < get_or to k 0 → r ≡ by_row h.stream.0 → r ≡ answer
+  decided_follows r e z = z ∙ ap by_row (sym place) ∙ sym (turns ∙ takes_more N s (get_or from k 0) (get_or to k 0) k (get_or nexts k 0) head_taken (best_record h) e)

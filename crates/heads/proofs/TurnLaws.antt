@@ -21,11 +21,11 @@ use Rattle.heads.specs.declared.Next.{Next}
 use Rattle.heads.specs.declared.Then.{Then}
 use Rattle.heads.specs.declared.Move.{Move}
 use Rattle.heads.specs.declared.Move.TheVariants as move
-use Rattle.heads.specs.View.{Cols, foursOf, restsOf}
+use Rattle.heads.specs.View.{Cols, fours_of, rests_of}
 use Rattle.least.specs.Fours.{left_at}
-use Rattle.least.specs.Least.{head_of, bestOf}
-use Rattle.heads.specs.Move.{move_of, takes, taken_of, behindBy, Placed, Shaped, turnAt, moved, takenRecord}
-use Rattle.heads.proofs.RestLaws.{Shorter, shorter, InPlace, in_place, moved-placed, moved-shaped, move-here, taken-same, stands, stayed}
+use Rattle.least.specs.Least.{head_of, best_of}
+use Rattle.heads.specs.Move.{move_of, takes, taken_of, behind_by, Placed, Shaped, turn_at, moved, taken_record}
+use Rattle.heads.proofs.RestLaws.{Shorter, shorter, InPlace, in_place, moved_placed, moved_shaped, move_here, taken_same, stands, stayed}
 
 -- the heads are placed, and each array has its eight places
 pub record Turning (s : Cols) (h : Heads) : Type 0 where
@@ -36,23 +36,23 @@ pub record Turning (s : Cols) (h : Heads) : Type 0 where
 pub record Takes (s : Cols) (b : Base) (h : Heads) (t : Taken) (g : Heads) : Type 0 where
   pub place : t.stream.0 < 8
   pub turning : Turning s g
-  pub less : total (restsOf s h) ≡ suc (total (restsOf s g))
+  pub less : total (rests_of s h) ≡ suc (total (rests_of s g))
   -- what is live lies on the base's chromosome
-  pub lively : t.live ≡ true → live b (takenRecord b t) ≡ true
+  pub lively : t.live ≡ true → live b (taken_record b t) ≡ true
 
 module _ (s : Cols) (h : Heads) (w : Turning s h) (N : ℕ) (b : Base) where
-  abbrev pub turn-here : Move
-  turn-here = move-here s h w.shaped w.placed.few N b
+  abbrev pub turn_here : Move
+  turn_here = move_here s h w.shaped w.placed.few N b
 
   -- a record that is taken and live is the one that was picked
   abbrev Lively : Move → Type 0
   Lively (move.Stay x) = Unit {0}
   Lively (move.Wrong e) = Unit {0}
-  Lively (move.Takes t a) = t.live ≡ true → live b (takenRecord b t) ≡ true
+  Lively (move.Takes t a) = t.live ≡ true → live b (taken_record b t) ≡ true
 
-  lively-here : Lively turn-here
+  lively_here : Lively turn_here
   unfolding move_of
-  lively-here = go (pick ahead (restsOf s h))
+  lively_here = go (pick ahead (rests_of s h))
     where
       go : (o : Pick Record) → Lively (move_of N b h.next o)
       go none = tt
@@ -61,16 +61,16 @@ module _ (s : Cols) (h : Heads) (w : Turning s h) (N : ℕ) (b : Base) where
           case : (t : Bool) (o : Option End) (k : List Record) → Lively (cond t (takes (taken_of b a) (get_or h.next a.stream.0 0 + 1) o k) (move.Stay (head_of a)))
           case false o k = tt
           case true (Option.some e) k = tt
-          case true Option.none [] = λ e. subst (λ (r : Record). live b r ≡ true) (sym (taken-same b a e)) e
-          case true Option.none (x ∷ l) = λ e. subst (λ (r : Record). live b r ≡ true) (sym (taken-same b a e)) e
+          case true Option.none [] = λ e. subst (λ (r : Record). live b r ≡ true) (sym (taken_same b a e)) e
+          case true Option.none (x ∷ l) = λ e. subst (λ (r : Record). live b r ≡ true) (sym (taken_same b a e)) e
 
   -- the least head is one of a stream
-  pub least-below : (a : Record) (rest : List Record) (ts : List (List Record)) → pick ahead (restsOf s h) ≡ one a rest ts → a.stream.0 < 8
-  least-below a rest ts z = omega (arith, w.placed.few, (stands s h w.shaped w.placed.few N b a rest ts z).place)
+  pub least_below : (a : Record) (rest : List Record) (ts : List (List Record)) → pick ahead (rests_of s h) ≡ one a rest ts → a.stream.0 < 8
+  least_below a rest ts z = omega (arith, w.placed.few, (stands s h w.shaped w.placed.few N b a rest ts z).place)
 
-  module _ (m : Move) (here : m ≡ turn-here) where
+  module _ (m : Move) (here : m ≡ turn_here) where
     turned : Turning s (moved h m)
-    turned = record { placed = rw here (moved-placed s h w.shaped w.placed.few N b w.placed); shaped = moved-shaped h m w.shaped }
+    turned = record { placed = rw here (moved_placed s h w.shaped w.placed.few N b w.placed); shaped = moved_shaped h m w.shaped }
 
     less : Shorter s h m
     less = rw here (shorter s h w.shaped w.placed.few N b)
@@ -79,13 +79,13 @@ module _ (s : Cols) (h : Heads) (w : Turning s h) (N : ℕ) (b : Base) where
     inside = rw here (in_place s h w.shaped w.placed.few N b)
 
     lives : Lively m
-    lives = rw here lively-here
+    lives = rw here lively_here
 
-    pub takes-so : (t : Taken) (a : Then) → m ≡ move.Takes t a → Takes s b h t (turnAt h t.stream.0 a)
-    takes-so t a e =
+    pub takes_so : (t : Taken) (a : Then) → m ≡ move.Takes t a → Takes s b h t (turn_at h t.stream.0 a)
+    takes_so t a e =
         let i : t.stream.0 < h.streams = rw e at inside in
         record { place = omega (arith, w.placed.few); turning = rw e at turned; less = rw e at less; lively = rw e at lives }
 
     -- where no head is taken the turn says which is the least
-    pub stays-best : (x : Best) → m ≡ move.Stay x → x ≡ bestOf (pick ahead (restsOf s h))
-    stays-best x e = stayed s h w.shaped w.placed.few N b x (sym here ∙ e)
+    pub stays_best : (x : Best) → m ≡ move.Stay x → x ≡ best_of (pick ahead (rests_of s h))
+    stays_best x e = stayed s h w.shaped w.placed.few N b x (sym here ∙ e)

@@ -10,8 +10,8 @@ use Rattle.rules.specs.Merge.{Pick, none, one, pick}
 use Rattle.rules.specs.Streams.{ahead, next}
 use Rattle.rules.specs.Overlap.{taken, live}
 use Rattle.least.specs.declared.Best.{Best}
-use Rattle.least.specs.Fours.{recordIn}
-use Rattle.least.specs.Least.{noBest, head_of}
+use Rattle.least.specs.Fours.{record_in}
+use Rattle.least.specs.Least.{no_best, head_of}
 use Rattle.heads.specs.declared.Taken.{Taken}
 use Rattle.heads.specs.declared.Next.{Next}
 use Rattle.heads.specs.declared.Then.{Then}
@@ -20,23 +20,23 @@ use Rattle.heads.specs.declared.Check.{Check}
 use Rattle.heads.specs.declared.Check.TheVariants as check
 use Rattle.heads.specs.declared.Move.{Move}
 use Rattle.heads.specs.declared.Move.TheVariants as move
-use Rattle.heads.specs.View.{Cols, Heads, rows_from, restsOf}
+use Rattle.heads.specs.View.{Cols, Heads, rows_from, rests_of}
 
 -- a head as a record
-abbrev pub bestRecord : Best → Record
-bestRecord h = recordIn h.stream h.chrom h.start h.stop h.row
+abbrev pub best_record : Best → Record
+best_record h = record_in h.stream h.chrom h.start h.stop h.row
 
 -- a row that was read, and as a record of stream k
-abbrev pub nextRow : Next → Row
-nextRow x = record { chrom = x.chrom; start = x.start; stop = x.stop }
+abbrev pub next_row : Next → Row
+next_row x = record { chrom = x.chrom; start = x.start; stop = x.stop }
 
-abbrev pub nextRecord : Stream → Next → Record
-nextRecord k x = record { stream = k; row = x.row; it = nextRow x }
+abbrev pub next_record : Stream → Next → Record
+next_record k x = record { stream = k; row = x.row; it = next_row x }
 
 -- what is wrong with a row, as the code answers it
-abbrev pub checkOf : Option End → Check
-checkOf Option.none = check.Fine
-checkOf (Option.some e) = check.Wrong e
+abbrev pub check_of : Option End → Check
+check_of Option.none = check.Fine
+check_of (Option.some e) = check.Wrong e
 
 -- ---- a turn
 
@@ -48,27 +48,27 @@ abbrev pub next_of : Record → ℕ → Next
 next_of x place = record { chrom = x.it.chrom; start = x.it.start; stop = x.it.stop; row = x.row; next = place }
 
 -- what becomes of a stream, by the rows behind the head that is taken, the first of which stands ahead of `place`
-abbrev pub thenOf : ℕ → List Record → Then
-thenOf place [] = then.Ends
-thenOf place (x ∷ rest) = then.Goes (next_of x place)
+abbrev pub then_of : ℕ → List Record → Then
+then_of place [] = then.Ends
+then_of place (x ∷ rest) = then.Goes (next_of x place)
 
 -- a record is taken, what is wrong behind it, and the rows behind it
 abbrev pub takes : Taken → ℕ → Option End → List Record → Move
 takes t place (Option.some e) rest = move.Wrong e
-takes t place Option.none rest = move.Takes t (thenOf place rest)
+takes t place Option.none rest = move.Takes t (then_of place rest)
 
 -- "heads are taken while [..] For each one taken, its successor is read and checked (7, 8)."
 unfoldable pub move_of : ℕ → Base → List ℕ → Pick Record → Move
-move_of n b nexts none = move.Stay noBest
+move_of n b nexts none = move.Stay no_best
 move_of n b nexts (one a rest ts) = cond (taken b a) (takes (taken_of b a) (get_or nexts a.stream.0 0 + 1) (next n a rest) rest) (move.Stay (head_of a))
 
 -- the next turn of a pull at b, of n chromosomes
 abbrev pub turn_of : Cols → ℕ → Base → Heads → Move
-turn_of s n b h = move_of n b h.next (pick ahead (restsOf s h))
+turn_of s n b h = move_of n b h.next (pick ahead (rests_of s h))
 
 -- the rows behind the heads, by the streams' places
-abbrev pub behindBy : Cols → List ℕ → List ℕ → List ℕ → ℕ → List Record
-behindBy s nexts from to k = rows_from s (get_or from k 0) (get_or to k 0) k (get_or nexts k 0)
+abbrev pub behind_by : Cols → List ℕ → List ℕ → List ℕ → ℕ → List Record
+behind_by s nexts from to k = rows_from s (get_or from k 0) (get_or to k 0) k (get_or nexts k 0)
 
 -- ---- what a turn asks of the heads
 
@@ -101,16 +101,16 @@ ends_at h k = record { chrom = h.chrom; start = h.start; stop = h.stop; row = h.
 abbrev pub goes_at : Heads → ℕ → Next → Heads
 goes_at h k x = record { chrom = set h.chrom k x.chrom.0; start = set h.start k x.start; stop = set h.stop k x.stop; row = set h.row k x.row; ended = set h.ended k 0; next = set h.next k x.next; from = h.from; to = h.to; streams = h.streams }
 
-abbrev pub turnAt : Heads → ℕ → Then → Heads
-turnAt h k then.Ends = ends_at h k
-turnAt h k (then.Goes x) = goes_at h k x
+abbrev pub turn_at : Heads → ℕ → Then → Heads
+turn_at h k then.Ends = ends_at h k
+turn_at h k (then.Goes x) = goes_at h k x
 
 -- the heads after a turn
 abbrev pub moved : Heads → Move → Heads
 moved h (move.Stay x) = h
 moved h (move.Wrong e) = h
-moved h (move.Takes t a) = turnAt h t.stream.0 a
+moved h (move.Takes t a) = turn_at h t.stream.0 a
 
 -- a record that is taken and live, which lies on the base's chromosome
-abbrev pub takenRecord : Base → Taken → Record
-takenRecord b t = recordIn t.stream b.chrom t.start t.stop t.row
+abbrev pub taken_record : Base → Taken → Record
+taken_record b t = record_in t.stream b.chrom t.start t.stop t.row

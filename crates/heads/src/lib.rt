@@ -4,9 +4,9 @@ ghost use Rattle.std.proofs.Math.Option.{none, some};
 ghost use Rattle.rules.specs.Rows.{good, follows, fault};
 ghost use Rattle.rules.specs.Overlap.{taken, live};
 ghost use Rattle.basics.specs.Lists.{Says};
-ghost use Rattle.heads.specs.View.{cols, row_at, headsBy};
+ghost use Rattle.heads.specs.View.{cols, row_at, heads_by};
 ghost use Rattle.heads.specs.Load.{BeginsAs, Loadable, LoadsAs};
-ghost use Rattle.heads.specs.Move.{bestRecord, nextRow, nextRecord, checkOf, takes, turn_of, turnAt, PlacedIn, Placed, next_of};
+ghost use Rattle.heads.specs.Move.{best_record, next_row, next_record, check_of, takes, turn_of, turn_at, PlacedIn, Placed, next_of};
 
 use least::Best;
 use rules::{Base, Chrom, End, Settings, Stream};
@@ -58,7 +58,7 @@ pub enum Move {
 
 // Whether a head is taken at a base: it lies on an earlier chromosome, or on the base's with start < base stop.
 pub fn is_taken(b: Base, h: Best) -> bool
-    ensures { result ≡ taken b (bestRecord h) }
+    ensures { result ≡ taken b (best_record h) }
 {
     let c = b.chrom;
     let d = h.chrom;
@@ -73,7 +73,7 @@ pub fn is_taken(b: Base, h: Best) -> bool
 
 // Whether a head is live for a base: it is on the base's chromosome and ends after base start.
 pub fn is_live(b: Base, h: Best) -> bool
-    ensures { result ≡ live b (bestRecord h) }
+    ensures { result ≡ live b (best_record h) }
 {
     let c = b.chrom;
     let d = h.chrom;
@@ -85,7 +85,7 @@ pub fn is_live(b: Base, h: Best) -> bool
 
 // Whether a row's chromosome is one of n, and its start no later than its stop; else 7.
 fn is_good(n: u64, x: Next) -> bool
-    ensures { result ≡ good n (nextRow x) }
+    ensures { result ≡ good n (next_row x) }
 {
     let c = x.chrom;
     if n <= c.0 {
@@ -96,7 +96,7 @@ fn is_good(n: u64, x: Next) -> bool
 
 // Whether a row is in order behind a head, by chromosome and start; else 8.
 fn is_ordered(h: Best, x: Next) -> bool
-    ensures { result ≡ follows (bestRecord h).it (nextRow x) }
+    ensures { result ≡ follows (best_record h).it (next_row x) }
 {
     let last = h.chrom;
     let here = x.chrom;
@@ -111,7 +111,7 @@ fn is_ordered(h: Best, x: Next) -> bool
 
 // What is wrong with the first row of stream k, of n chromosomes: 7.
 fn check_first(n: u64, k: Stream, x: Next) -> Check
-    ensures { result ≡ checkOf (fault n none (nextRecord k x)) }
+    ensures { result ≡ check_of (fault n none (next_record k x)) }
 {
     if is_good(n, x) {
         return Check::Fine;
@@ -121,7 +121,7 @@ fn check_first(n: u64, k: Stream, x: Next) -> Check
 
 // What is wrong with the row behind a head: 7, then 8.
 fn check_behind(n: u64, h: Best, x: Next) -> Check
-    ensures { result ≡ checkOf (fault n (some (bestRecord h).it) (nextRecord h.stream x)) }
+    ensures { result ≡ check_of (fault n (some (best_record h).it) (next_record h.stream x)) }
 {
     let k = h.stream;
     let good = is_good(n, x);
@@ -161,7 +161,7 @@ fn follow(
     stop: &[u64],
 ) -> Move
     requires { (first ≤ at) × (at < length chrom.now) × (length start.now ≡ length chrom.now) × (length stop.now ≡ length chrom.now) }
-    ensures { result ≡ takes t (at + 1) (fault n (some (bestRecord h).it) (row_at (cols chrom.now start.now stop.now) first h.stream.0 at)) (row_at (cols chrom.now start.now stop.now) first h.stream.0 at ∷ []) }
+    ensures { result ≡ takes t (at + 1) (fault n (some (best_record h).it) (row_at (cols chrom.now start.now stop.now) first h.stream.0 at)) (row_at (cols chrom.now start.now stop.now) first h.stream.0 at ∷ []) }
 {
     let x = read_row(at, first, chrom, start, stop);
     let w = check_behind(n, h, x);
@@ -221,7 +221,7 @@ pub fn decide<'a>(
     stop: &[u64],
 ) -> Move
     requires { Placed (cols chrom.now start.now stop.now) streams next.now from.now to.now }
-    ensures { result ≡ turn_of (cols chrom.now start.now stop.now) n b (headsBy fours.now ended.now next.now from.now to.now streams) }
+    ensures { result ≡ turn_of (cols chrom.now start.now stop.now) n b (heads_by fours.now ended.now next.now from.now to.now streams) }
 {
     let h = least::least(fours, ended, streams);
     let s = h.stream;
@@ -256,7 +256,7 @@ pub fn go_on(
     a: Then,
 )
     requires { k < 8 }
-    ensures { (from to : List ℕ) (n : ℕ) → headsBy fours.new ended.new next.new from to n ≡ turnAt (headsBy fours.old ended.old next.old from to n) k a }
+    ensures { (from to : List ℕ) (n : ℕ) → heads_by fours.new ended.new next.new from to n ≡ turn_at (heads_by fours.old ended.old next.old from to n) k a }
 {
     match a {
         Then::Ends => {
@@ -290,8 +290,8 @@ fn begin<'a>(
 ) -> Check
     requires { Placed (cols chrom.now start.now stop.now) streams next.old from.now to.now × (k < streams) }
     ensures { BeginsAs (cols chrom.now start.now stop.now) n
-        (headsBy fours.old ended.old next.old from.now to.now streams) k result
-        (headsBy fours.new ended.new next.new from.now to.now streams) }
+        (heads_by fours.old ended.old next.old from.now to.now streams) k result
+        (heads_by fours.new ended.new next.new from.now to.now streams) }
 {
     let at = next[k];
     let first = from[k];
@@ -322,10 +322,10 @@ pub fn load<'a>(
     start: &[u64],
     stop: &[u64],
 ) -> Check
-    requires { Loadable (cols chrom.now start.now stop.now) (headsBy fours.old ended.old next.old from.now to.now streams) }
+    requires { Loadable (cols chrom.now start.now stop.now) (heads_by fours.old ended.old next.old from.now to.now streams) }
     ensures { LoadsAs (cols chrom.now start.now stop.now) n
-        (headsBy fours.old ended.old next.old from.now to.now streams) result
-        (headsBy fours.new ended.new next.new from.now to.now streams) }
+        (heads_by fours.old ended.old next.old from.now to.now streams) result
+        (heads_by fours.new ended.new next.new from.now to.now streams) }
 {
     let mut k: usize = 0;
     while k < streams {

@@ -16,28 +16,28 @@ use Rattle.fields.specs.Table.{Found, Fills}
 use Rattle.inplace.specs.declared.told.Offered.{Offered}
 use Rattle.inplace.specs.declared.told.Stopped.{Stopped}
 use Rattle.inplace.specs.declared.readers.Tally.{Tally}
-use Rattle.inplace.specs.Told.{offeredOf, stoppedOf}
-use Rattle.inplace.specs.Calls.{eightOf, streamsIn, plan_of, begunNumber, BeginsInPlace, GivesInPlace}
+use Rattle.inplace.specs.Told.{offered_of, stopped_of}
+use Rattle.inplace.specs.Calls.{eight_of, streams_in, plan_of, begun_number, BeginsInPlace, GivesInPlace}
 use Rattle.inplace.specs.Tally.{tally_of, Tallies}
 
 -- bases given to the run that is kept, and what they came to told
 pub gives_so : {s : Cols} {lengths : List ℕ} {t : Cols} {r : Run} {l l' : Lent} {ns ns' : List ℕ} {p : Passed} {o : Offered} {x : Stopped}
-    → GivesAll s lengths t r l ns p l' ns' → o ≡ offeredOf p.offer → x ≡ stoppedOf p.last → GivesInPlace s lengths t r l ns (record { bases = p.bases; records = p.records; offer = o; last = x }) p.run l' ns'
+    → GivesAll s lengths t r l ns p l' ns' → o ≡ offered_of p.offer → x ≡ stopped_of p.last → GivesInPlace s lengths t r l ns (record { bases = p.bases; records = p.records; offer = o; last = x }) p.run l' ns'
 gives_so {p = p} e i j = record { passed = p; told = rw (i, j); run = refl; gives = e }
 
 -- a run begun with ranges in two columns, and its answer told
-pub begins-so : (x : Settings) (from to : List ℕ) (text names-from names-to : List ℕ) (s : Cols) {n : ℕ} {begins ends : List ℕ} {t : Started} {k : ℕ}
-    → t ≡ start_of (plan (record { streams = n; chroms = x.chroms; room = x.room }) begins ends text names-from names-to s) → n ≡ streamsIn x.streams (length from) (length to) → begins ≡ eightOf from → ends ≡ eightOf to
-    → k ≡ begunNumber t.begins → BeginsInPlace (plan_of x from to text names-from names-to s) k t.run
-begins-so x from to text names-from names-to s {n} {begins} {ends} {t} {k} et en ef eo ek =
-    let es : t ≡ start_of (plan_of x from to text names-from names-to s) =
-    et ∙ ap (λ (m : ℕ). start_of (plan (record { streams = m; chroms = x.chroms; room = x.room }) begins ends text names-from names-to s)) en ∙
-    ap (λ (l : List ℕ). start_of (plan (record { streams = streamsIn x.streams (length from) (length to); chroms = x.chroms; room = x.room }) l ends text names-from names-to s)) ef ∙
-    ap (λ (l : List ℕ). start_of (plan (record { streams = streamsIn x.streams (length from) (length to); chroms = x.chroms; room = x.room }) (eightOf from) l text names-from names-to s)) eo in
-    record { number = ek ∙ ap (λ (u : Started). begunNumber u.begins) es; run = ap (λ (u : Started). u.run) es }
+pub begins_so : (x : Settings) (from to : List ℕ) (text names_from names_to : List ℕ) (s : Cols) {n : ℕ} {begins ends : List ℕ} {t : Started} {k : ℕ}
+    → t ≡ start_of (plan (record { streams = n; chroms = x.chroms; room = x.room }) begins ends text names_from names_to s) → n ≡ streams_in x.streams (length from) (length to) → begins ≡ eight_of from → ends ≡ eight_of to
+    → k ≡ begun_number t.begins → BeginsInPlace (plan_of x from to text names_from names_to s) k t.run
+begins_so x from to text names_from names_to s {n} {begins} {ends} {t} {k} et en ef eo ek =
+    let es : t ≡ start_of (plan_of x from to text names_from names_to s) =
+    et ∙ ap (λ (m : ℕ). start_of (plan (record { streams = m; chroms = x.chroms; room = x.room }) begins ends text names_from names_to s)) en ∙
+    ap (λ (l : List ℕ). start_of (plan (record { streams = streams_in x.streams (length from) (length to); chroms = x.chroms; room = x.room }) l ends text names_from names_to s)) ef ∙
+    ap (λ (l : List ℕ). start_of (plan (record { streams = streams_in x.streams (length from) (length to); chroms = x.chroms; room = x.room }) (eight_of from) l text names_from names_to s)) eo in
+    record { number = ek ∙ ap (λ (u : Started). begun_number u.begins) es; run = ap (λ (u : Started). u.run) es }
 
 -- a reading whose answer is told
-pub tallies-so : {A : Type 0} {f g h : A → ℕ} {found : Found A} {a b c a' b' c' : List ℕ} {r : Reading} {t : Tally}
+pub tallies_so : {A : Type 0} {f g h : A → ℕ} {found : Found A} {a b c a' b' c' : List ℕ} {r : Reading} {t : Tally}
     → Fills f g h found a b c r a' b' c' → t ≡ tally_of r → Tallies f g h found a b c t a' b' c'
-tallies-so {r} e et =
+tallies_so {r} e et =
     record { told = et ∙ ap tally_of e.answered; fills = record { answered = refl; first = e.first; second = e.second; third = e.third } }

@@ -20,39 +20,39 @@ use Rattle.rules.specs.declared.Refusal.TheVariants.{Sizes}
 use Rattle.rules.specs.declared.Settings.{Settings}
 use Rattle.rules.specs.declared.Unbegun.TheVariants as unbegun
 use Rattle.rules.specs.Numbers.{number_of}
-use Rattle.rules.specs.Start.{within, refusesStart}
+use Rattle.rules.specs.Start.{within, refuses_start}
 use Rattle.rules.specs.Call.{Reply, refused, refuse, give}
 use Rattle.heads.specs.View.{Heads, Cols}
 use Rattle.heads.specs.Move.{Shaped}
 use Rattle.queue.specs.declared.Ring.{Ring}
 use Rattle.admit.specs.Right.{measured}
-use Rattle.admit.proofs.RightLaws.{right-off}
-use Rattle.pulls.specs.Pulls.{Lent, drawnTo}
+use Rattle.admit.proofs.RightLaws.{right_off}
+use Rattle.pulls.specs.Pulls.{Lent, drawn_to}
 use Rattle.runs.specs.declared.Run.{Run}
 use Rattle.runs.specs.declared.start.Begins.TheVariants as begins
 use Rattle.runs.specs.Marks.{marked}
-use Rattle.runs.specs.View.{headsOf, ringOf, stageOf, run_of, eight}
-use Rattle.runs.specs.Start.{Plan, names_of, lendable, refusedOf, begunBy, start_of}
-use Rattle.runs.specs.Comes.{lens_of, rightOf, given_of}
+use Rattle.runs.specs.View.{heads_of, ring_of, stage_of, run_of, eight}
+use Rattle.runs.specs.Start.{Plan, names_of, lendable, refused_of, begun_by, start_of}
+use Rattle.runs.specs.Comes.{lens_of, right_of, given_of}
 use Rattle.step.specs.Settle.{run_by}
-use Rattle.step.specs.Give.{openedBy, Gives}
+use Rattle.step.specs.Give.{opened_by, Gives}
 use Rattle.many.specs.declared.Passed.{Passed}
 use Rattle.many.specs.Alike.{AllAlike}
 use Rattle.many.proofs.Alikes.{all_alike}
-use Rattle.many.specs.Many.{base_at, Unfound, Even, unevenBy}
-use Rattle.demands.proofs.OneResult.{Alike, one-result}
-use Rattle.sweep.proofs.Single.{single-found, single-last, single-other, single-none}
+use Rattle.many.specs.Many.{base_at, Unfound, Even, uneven_by}
+use Rattle.demands.proofs.OneResult.{Alike, one_result}
+use Rattle.sweep.proofs.Single.{single_found, single_last, single_other, single_none}
 use Rattle.inplace.specs.declared.Swept.{Swept}
-use Rattle.inplace.specs.Told.{offeredOf, stoppedOf, sweptOf, aloneOf}
-use Rattle.inplace.specs.Calls.{streamsIn, plan_of, BeginsInPlace, GivesInPlace, answered, GivesAlone}
+use Rattle.inplace.specs.Told.{offered_of, stopped_of, swept_of, alone_of}
+use Rattle.inplace.specs.Calls.{streams_in, plan_of, BeginsInPlace, GivesInPlace, answered, GivesAlone}
 
 -- ---- numbers
 
 -- the number that is told is 01's
-pub told-number : (a : Answer) → (stoppedOf a).refusal ≡ number_of a
-told-number (Found n o) = refl
-told-number (Refused x) = refl
-told-number (Ended e) = refl
+pub told_number : (a : Answer) → (stopped_of a).refusal ≡ number_of a
+told_number (Found n o) = refl
+told_number (Refused x) = refl
+told_number (Ended e) = refl
 
 -- ---- memory of zeros
 
@@ -60,56 +60,56 @@ abbrev pub zeros : Run
 zeros = record { chrom = eight 0; start = eight 0; stop = eight 0; row = eight 0; ended = eight 0; next = eight 0; from = eight 0; to = eight 0; settings = record { streams = 0; chroms = 0; room = 0 }; head = 0; len = 0; place = 0; mark = marked 0 0 0 0 }
 
 module _ (s : Cols) (lengths : List ℕ) (l : Lent) where
-  zeros-wrong : rightOf s lengths zeros l ≡ false
+  zeros_wrong : right_of s lengths zeros l ≡ false
   unfolding measured
-  zeros-wrong = right-off (lens_of s lengths l) 0 0 (ringOf zeros) (eight 0) (eight 0) (eight 0) (eight 0) (eight 0) l.cells refl
+  zeros_wrong = right_off (lens_of s lengths l) 0 0 (ring_of zeros) (eight 0) (eight 0) (eight 0) (eight 0) (eight 0) l.cells refl
 
   -- a run that was never begun: every base that is given to it is refused by 1
-  pub zeros-refused : (b : Base) → given_of s lengths zeros b l ≡ refuse (run_of s l.cells zeros) Sizes
+  pub zeros_refused : (b : Base) → given_of s lengths zeros b l ≡ refuse (run_of s l.cells zeros) Sizes
   unfolding give
-  zeros-refused b = rw zeros-wrong
+  zeros_refused b = rw zeros_wrong
 
 -- ---- a base given alone
 
-found-alone : (p : Passed) {a : Answer} → p.bases ≡ 1 → p.last ≡ Found 0 Nothing → Found p.records p.offer ≡ a → sweptOf p ≡ aloneOf a
-found-alone p i j e = rw (← e, i, j)
+found_alone : (p : Passed) {a : Answer} → p.bases ≡ 1 → p.last ≡ Found 0 Nothing → Found p.records p.offer ≡ a → swept_of p ≡ alone_of a
+found_alone p i j e = rw (← e, i, j)
 
-other-alone : (p : Passed) {a : Answer} → (p.bases ≡ 0) × ((p.records ≡ 0) × ((p.offer ≡ Nothing) × Unfound p.last)) → p.last ≡ a → sweptOf p ≡ aloneOf a
-other-alone p {a} (i, (j, (k, u))) e = rw (i, j, k, e) (go a (subst Unfound e u))
+other_alone : (p : Passed) {a : Answer} → (p.bases ≡ 0) × ((p.records ≡ 0) × ((p.offer ≡ Nothing) × Unfound p.last)) → p.last ≡ a → swept_of p ≡ alone_of a
+other_alone p {a} (i, (j, (k, u))) e = rw (i, j, k, e) (go a (subst Unfound e u))
   where
-    go : (a : Answer) → Unfound a → ◌≡◌ {A = Swept} (record { bases = 0; records = 0; offer = offeredOf Nothing; last = stoppedOf a }) (aloneOf a)
+    go : (a : Answer) → Unfound a → ◌≡◌ {A = Swept} (record { bases = 0; records = 0; offer = offered_of Nothing; last = stopped_of a }) (alone_of a)
     go (Found n o) z = absurd z
     go (Refused x) z = refl
     go (Ended f) z = refl
 
 -- columns of one base are the call that gives it: its answer in numbers, and the sweep's own promise of the run behind the reference before and after
 module _ {s : Cols} {lengths : List ℕ} {t : Cols} {r : Run} {l : Lent} {ns : List ℕ} {a : Swept} {r' : Run} {l' : Lent} {ns' : List ℕ} (n : length t.chrom ≡ 1) (even : Even t ns) (g : GivesInPlace s lengths t r l ns a r' l' ns') where
-  as-given : {x : Answer} → Gives s lengths r (base_at t 0) l (record { run = g.passed.run; answer = x }) l' → Gives s lengths r (base_at t 0) l (record { run = r'; answer = answered s lengths r (base_at t 0) l }) l'
-  as-given {x} y = rw g.run (subst (λ (z : Answer). Gives s lengths r (base_at t 0) l (record { run = g.passed.run; answer = z }) l') y.settles.answer y)
+  as_given : {x : Answer} → Gives s lengths r (base_at t 0) l (record { run = g.passed.run; answer = x }) l' → Gives s lengths r (base_at t 0) l (record { run = r'; answer = answered s lengths r (base_at t 0) l }) l'
+  as_given {x} y = rw g.run (subst (λ (z : Answer). Gives s lengths r (base_at t 0) l (record { run = g.passed.run; answer = z }) l') y.settles.answer y)
 
-  pub given-alone : GivesAlone s lengths r (base_at t 0) l a r' l'
-  given-alone = go (eqb g.passed.bases 1) refl
+  pub given_alone : GivesAlone s lengths r (base_at t 0) l a r' l'
+  given_alone = go (eqb g.passed.bases 1) refl
     where
       go : (c : Bool) → eqb g.passed.bases 1 ≡ c → GivesAlone s lengths r (base_at t 0) l a r' l'
       go true e =
           let i = eqb-true g.passed.bases 1 e in
-          let y = single-found n even g.gives i in
-          record { told = g.told ∙ found-alone g.passed i (single-last n even g.gives i) y.settles.answer; gives = as-given y }
+          let y = single_found n even g.gives i in
+          record { told = g.told ∙ found_alone g.passed i (single_last n even g.gives i) y.settles.answer; gives = as_given y }
       go false e =
           let i : g.passed.bases ≡ 1 → ⊥ = λ o. clash (eq-eqb g.passed.bases 1 o) e in
-          let y = single-other n even g.gives i in
-          record { told = g.told ∙ other-alone g.passed (single-none n even g.gives i) y.settles.answer; gives = as-given y }
+          let y = single_other n even g.gives i in
+          record { told = g.told ∙ other_alone g.passed (single_none n even g.gives i) y.settles.answer; gives = as_given y }
 
 -- ---- "run unchanged"
 
-by-refused : (t : Reply) (x : Refusal) (b : Base) (h : Heads) (r : Run) (q : Ring) → t ≡ refused x → run_by t b h r q ≡ r
-by-refused t x b h r q e = rw e
+by_refused : (t : Reply) (x : Refusal) (b : Base) (h : Heads) (r : Run) (q : Ring) → t ≡ refused x → run_by t b h r q ≡ r
+by_refused t x b h r q e = rw e
 
 module _ (s : Cols) (lengths : List ℕ) (r : Run) (b : Base) (l : Lent) (a : Swept) (r' : Run) (l' : Lent) (g : GivesAlone s lengths r b l a r' l') where
   -- a refused base leaves the run as it was, every number of it, and all that was lent
   pub unchanged : (x : Refusal) → (given_of s lengths r b l).reply ≡ refused x → (r' ≡ r) × (l' ≡ l)
   unchanged x e = (
-    g.gives.settles.exact ∙ by-refused (given_of s lengths r b l).reply x b (drawnTo s r.settings.chroms b (openedBy (stageOf r) s (headsOf r))) r (ringOf r') e,
+    g.gives.settles.exact ∙ by_refused (given_of s lengths r b l).reply x b (drawn_to s r.settings.chroms b (opened_by (stage_of r) s (heads_of r))) r (ring_of r') e,
     g.gives.still x e,
   )
 
@@ -119,22 +119,22 @@ module _ (s : Cols) (lengths : List ℕ) (r : Run) (b : Base) (l : Lent) (a : Sw
   one_told u k m f = g.told ∙ sym f.told
 
   -- the run and what was lent, as far as the call by value says them
-  pub one-run : (u : Swept) (k : Run) (m : Lent) → GivesAlone s lengths r b l u k m
+  pub one_run : (u : Swept) (k : Run) (m : Lent) → GivesAlone s lengths r b l u k m
       → Alike (given_of s lengths r b l).reply (record { run = r'; answer = answered s lengths r b l }) l' (record { run = k; answer = answered s lengths r b l }) m
-  one-run u k m f = one-result s lengths r b l (record { run = r'; answer = answered s lengths r b l }) l' (record { run = k; answer = answered s lengths r b l }) m g.gives f.gives
+  one_run u k m f = one_result s lengths r b l (record { run = r'; answer = answered s lengths r b l }) l' (record { run = k; answer = answered s lengths r b l }) m g.gives f.gives
 
 -- ---- "any two results allowed by a statement are equal": what is told of many bases, the counts and the answer rows
 
-module _ {s : Cols} {lengths : List ℕ} {t : Cols} {r : Run} {l : Lent} {ns : List ℕ} {a b : Swept} {r' k : Run} {l' m : Lent} {ns' ms : List ℕ} (shaped : Shaped (headsOf r)) (even : Even t ns)
+module _ {s : Cols} {lengths : List ℕ} {t : Cols} {r : Run} {l : Lent} {ns : List ℕ} {a b : Swept} {r' k : Run} {l' m : Lent} {ns' ms : List ℕ} (shaped : Shaped (heads_of r)) (even : Even t ns)
     (g : GivesInPlace s lengths t r l ns a r' l' ns') (f : GivesInPlace s lengths t r l ns b k m ms) where
   alike : AllAlike s g.passed l' ns' f.passed m ms
   alike = all_alike s lengths t r l ns shaped even g.gives f.gives
 
-  same-swept : sweptOf g.passed ≡ sweptOf f.passed
-  same-swept = rw (alike.bases, alike.records, alike.offer, alike.last)
+  same_swept : swept_of g.passed ≡ swept_of f.passed
+  same_swept = rw (alike.bases, alike.records, alike.offer, alike.last)
 
-  pub one-swept : a ≡ b
-  one-swept = g.told ∙ same-swept ∙ sym f.told
+  pub one_swept : a ≡ b
+  one_swept = g.told ∙ same_swept ∙ sym f.told
 
   pub one_left : (ns' ≡ ms) × (l'.answers ≡ m.answers)
   one_left = (alike.counts, alike.answers)
@@ -143,43 +143,43 @@ module _ {s : Cols} {lengths : List ℕ} {t : Cols} {r : Run} {l : Lent} {ns : L
 
 -- none of them was given: the run, all that was lent and the counts stay, and what is told is 1, or the end again of a run that has ended
 module _ (s : Cols) (lengths : List ℕ) (t : Cols) (r : Run) (l : Lent) (ns : List ℕ) (a : Swept) (r' : Run) (l' : Lent) (ns' : List ℕ) (g : GivesInPlace s lengths t r l ns a r' l' ns') (d : Even t ns → ⊥) where
-  pub uneven-unchanged : (r' ≡ r) × ((l' ≡ l) × (ns' ≡ ns))
-  uneven-unchanged = (g.run ∙ ap (λ (p : Passed). p.run) (g.gives.uneven d).passed, ((g.gives.uneven d).lent, (g.gives.uneven d).counts))
+  pub uneven_unchanged : (r' ≡ r) × ((l' ≡ l) × (ns' ≡ ns))
+  uneven_unchanged = (g.run ∙ ap (λ (p : Passed). p.run) (g.gives.uneven d).passed, ((g.gives.uneven d).lent, (g.gives.uneven d).counts))
 
-  pub uneven-told : a ≡ record { bases = 0; records = 0; offer = offeredOf Nothing; last = stoppedOf (unevenBy (stageOf r)) }
-  uneven-told = g.told ∙ ap sweptOf (g.gives.uneven d).passed
+  pub uneven_told : a ≡ record { bases = 0; records = 0; offer = offered_of Nothing; last = stopped_of (uneven_by (stage_of r)) }
+  uneven_told = g.told ∙ ap swept_of (g.gives.uneven d).passed
 
 -- ---- a start: "any two results allowed by a statement are equal"
 
 pub one_number : (p : Plan) (n m : ℕ) (r k : Run) → BeginsInPlace p n r → BeginsInPlace p m k → n ≡ m
 one_number p n m r k f g = f.number ∙ sym g.number
 
-pub one-begun : (p : Plan) (n m : ℕ) (r k : Run) → BeginsInPlace p n r → BeginsInPlace p m k → r ≡ k
-one-begun p n m r k f g = f.run ∙ sym g.run
+pub one_begun : (p : Plan) (n m : ℕ) (r k : Run) → BeginsInPlace p n r → BeginsInPlace p m k → r ≡ k
+one_begun p n m r k f g = f.run ∙ sym g.run
 
 -- ---- the ranges
 
 -- "1 to 8 streams."
-few-refused : (p : Plan) → within 1 8 p.settings.streams ≡ false → (start_of p).begins ≡ begins.Refused unbegun.Sizes
-unfolding refusedOf refusesStart
-few-refused p e = go (lendable p)
+few_refused : (p : Plan) → within 1 8 p.settings.streams ≡ false → (start_of p).begins ≡ begins.Refused unbegun.Sizes
+unfolding refused_of refuses_start
+few_refused p e = go (lendable p)
   where
-    go : (t : Bool) → begunBy (cond t (refusesStart p.settings (names_of p)) (some unbegun.Sizes)) ≡ begins.Refused unbegun.Sizes
+    go : (t : Bool) → begun_by (cond t (refuses_start p.settings (names_of p)) (some unbegun.Sizes)) ≡ begins.Refused unbegun.Sizes
     go true = rw e
     go false = refl
 
-module _ (x : Settings) (from to : List ℕ) (text names-from names-to : List ℕ) (s : Cols) where
+module _ (x : Settings) (from to : List ℕ) (text names_from names_to : List ℕ) (s : Cols) where
   -- "a range for each stream": "lent columns differ in length"
-  pub uneven-refused : ((length from ≡ x.streams) × (length to ≡ x.streams) → ⊥) → (start_of (plan_of x from to text names-from names-to s)).begins ≡ begins.Refused unbegun.Sizes
-  uneven-refused d = few-refused (plan_of x from to text names-from names-to s) (go (eqb (length from) x.streams) (eqb (length to) x.streams) refl refl)
+  pub uneven_refused : ((length from ≡ x.streams) × (length to ≡ x.streams) → ⊥) → (start_of (plan_of x from to text names_from names_to s)).begins ≡ begins.Refused unbegun.Sizes
+  uneven_refused d = few_refused (plan_of x from to text names_from names_to s) (go (eqb (length from) x.streams) (eqb (length to) x.streams) refl refl)
     where
-      go : (t u : Bool) → eqb (length from) x.streams ≡ t → eqb (length to) x.streams ≡ u → within 1 8 (streamsIn x.streams (length from) (length to)) ≡ false
+      go : (t u : Bool) → eqb (length from) x.streams ≡ t → eqb (length to) x.streams ≡ u → within 1 8 (streams_in x.streams (length from) (length to)) ≡ false
       go true true a b = absurd (d (eqb-true (length from) x.streams a, eqb-true (length to) x.streams b))
       go true false a b = rw (a, b)
       go false u a b = rw a
 
-  pub many-refused : 8 < x.streams → (start_of (plan_of x from to text names-from names-to s)).begins ≡ begins.Refused unbegun.Sizes
-  many-refused d = few-refused (plan_of x from to text names-from names-to s) (go (eqb (length from) x.streams && eqb (length to) x.streams))
+  pub many_refused : 8 < x.streams → (start_of (plan_of x from to text names_from names_to s)).begins ≡ begins.Refused unbegun.Sizes
+  many_refused d = few_refused (plan_of x from to text names_from names_to s) (go (eqb (length from) x.streams && eqb (length to) x.streams))
     where
       go : (t : Bool) → within 1 8 (cond t x.streams 0) ≡ false
       go true = rw (lt-leb x.streams 8 d, le-leb 1 x.streams (omega (arith, d)))

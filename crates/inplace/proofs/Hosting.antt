@@ -16,17 +16,17 @@ use Rattle.runs.specs.declared.start.Begins.TheVariants as begins
 use Rattle.runs.specs.Start.{Plan, start_of}
 use Rattle.demands.specs.Calls.{Came, Calls, Runs}
 use Rattle.demands.specs.Calls as calls
-use Rattle.demands.proofs.Chained.{calls-then}
+use Rattle.demands.proofs.Chained.{calls_then}
 use Rattle.many.specs.declared.Passed.{Passed}
 use Rattle.many.specs.Many.{base_at, Even}
 use Rattle.many.specs.Chain.{Chain}
-use Rattle.many.proofs.Chains.{passes-calls}
+use Rattle.many.proofs.Chains.{passes_calls}
 use Rattle.inplace.specs.declared.Swept.{Swept}
-use Rattle.inplace.specs.Told.{offeredOf, stoppedOf, sweptOf}
-use Rattle.inplace.specs.Calls.{begunNumber, BeginsInPlace, GivesInPlace}
+use Rattle.inplace.specs.Told.{offered_of, stopped_of, swept_of}
+use Rattle.inplace.specs.Calls.{begun_number, BeginsInPlace, GivesInPlace}
 use Rattle.inplace.specs.Hosted.{Seen, Hosted, none, gave, uneven, Sees, Tells}
 use Rattle.inplace.specs.Hosted as hosted
-use Rattle.inplace.proofs.HostLaws.{uneven-unchanged}
+use Rattle.inplace.proofs.HostLaws.{uneven_unchanged}
 
 -- the bases that were given, what came of each, and that this is what was seen
 pub record OneByOne (s : Cols) (lengths : List ℕ) (r : Run) (c : Cells) (xs : List Seen) (v : Run) (d : Cells) : Type 0 where
@@ -48,7 +48,7 @@ module _ {s : Cols} {lengths : List ℕ} where
     came = refl;
     counts = k.counts;
     rows = k.rows;
-    offer = ap offeredOf k.offer;
+    offer = ap offered_of k.offer;
     stopped = k.stopped;
     told = refl;
   })
@@ -56,16 +56,16 @@ module _ {s : Cols} {lengths : List ℕ} where
   pub one_by_one : {r v : Run} {c d : Cells} {xs : List Seen} → Hosted s lengths r c xs v d → OneByOne s lengths r c xs v d
   one_by_one none = record { bases = []; came = []; tells = Tells.none; calls = Calls.none }
   one_by_one {v = v} {d = d} (gave {r = r} {c = c} t answers ns a r' l' ns' g even q) =
-      let k : Chain s lengths t r (lent c answers) g.passed l' ns' = passes-calls even g.gives in
+      let k : Chain s lengths t r (lent c answers) g.passed l' ns' = passes_calls even g.gives in
       let y = one_by_one q in
       record {
         bases = (build (base_at t) g.passed.bases 0 ++ k.more) ++ y.bases;
         came = (k.os ++ k.last) ++ y.came;
         tells = Tells.one (sees g k) y.tells;
-        calls = calls-then k.calls (subst (λ (x : Run). Calls s lengths x l'.cells y.bases y.came v d) g.run y.calls);
+        calls = calls_then k.calls (subst (λ (x : Run). Calls s lengths x l'.cells y.bases y.came v d) g.run y.calls);
       }
   one_by_one {v = v} {d = d} (uneven {r = r} {c = c} t answers ns a r' l' ns' g odd q) =
-      let same = uneven-unchanged s lengths t r (lent c answers) ns a r' l' ns' g odd in
+      let same = uneven_unchanged s lengths t r (lent c answers) ns a r' l' ns' g odd in
       let y = one_by_one q in
       record {
         bases = y.bases;
@@ -76,12 +76,12 @@ module _ {s : Cols} {lengths : List ℕ} where
       }
 
 -- a run that `cedarlash_begin` began: its calls are those that the demands speak of
-begun : (b : Begins) → 0 ≡ begunNumber b → b ≡ begins.Begun
+begun : (b : Begins) → 0 ≡ begun_number b → b ≡ begins.Begun
 begun begins.Begun e = refl
 begun (begins.Refused unbegun.Sizes) e = absurd (omega (arith, e))
 begun (begins.Refused unbegun.Names) e = absurd (omega (arith, e))
 
-pub hosted-runs : {p : Plan} {lengths : List ℕ} {r v : Run} {c d : Cells} {xs : List Seen} → BeginsInPlace p 0 r → (h : Hosted p.cols lengths r c xs v d) → Runs p lengths (one_by_one h).bases (one_by_one h).came
-hosted-runs {p} {lengths} {r} {v} {c} {d} b h =
+pub hosted_runs : {p : Plan} {lengths : List ℕ} {r v : Run} {c d : Cells} {xs : List Seen} → BeginsInPlace p 0 r → (h : Hosted p.cols lengths r c xs v d) → Runs p lengths (one_by_one h).bases (one_by_one h).came
+hosted_runs {p} {lengths} {r} {v} {c} {d} b h =
     let y = one_by_one h in
     record { begun = begun (start_of p).begins b.number; cells = c; last = v; left = d; calls = subst (λ (x : Run). Calls p.cols lengths x c y.bases y.came v d) b.run y.calls }

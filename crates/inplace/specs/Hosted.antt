@@ -7,11 +7,11 @@ use Rattle.heads.specs.View.{Cols}
 use Rattle.queue.specs.Ring.{Cells}
 use Rattle.pulls.specs.Pulls.{Lent, lent}
 use Rattle.runs.specs.declared.Run.{Run}
-use Rattle.demands.specs.Calls.{Came, countIn, all_rows, lastOffer}
+use Rattle.demands.specs.Calls.{Came, count_in, all_rows, last_offer}
 use Rattle.many.specs.Many.{base_at, Even}
 use Rattle.many.specs.Chain.{Stopped}
 use Rattle.inplace.specs.declared.Swept.{Swept}
-use Rattle.inplace.specs.Told.{offeredOf, stoppedOf}
+use Rattle.inplace.specs.Told.{offered_of, stopped_of}
 use Rattle.inplace.specs.Calls.{GivesInPlace}
 
 -- what a host sees of a call: the bases that it gave, in columns, what it was told, and the counts and the answer rows afterwards
@@ -41,11 +41,11 @@ pub record Sees (x : Seen) (bs : List Base) (os : List Came) : Type 0 where
   pub answer : Answer
   pub bases : bs ≡ build (base_at x.bases) x.told.bases 0 ++ more
   pub came : os ≡ answered ++ last
-  pub counts : take x.told.bases x.counts ≡ map (λ (o : Came). countIn o.answer) answered
+  pub counts : take x.told.bases x.counts ≡ map (λ (o : Came). count_in o.answer) answered
   pub rows : take x.told.records x.rows ≡ all_rows answered
-  pub offer : x.told.offer ≡ offeredOf (lastOffer answered)
+  pub offer : x.told.offer ≡ offered_of (last_offer answered)
   pub stopped : Stopped (base_at x.bases x.told.bases) answer more last
-  pub told : x.told.last ≡ stoppedOf answer
+  pub told : x.told.last ≡ stopped_of answer
 
 -- and of several
 pub data Tells : List Seen → List Base → List Came → Type 0 where

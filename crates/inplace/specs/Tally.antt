@@ -1,12 +1,12 @@
 -- What the readers for hosts say: as the readers do, with the answer in numbers.
 use Rattle.std.specs.Prelude.{◌≡◌, List, ℕ, length}
 use Rattle.fields.specs.declared.Reading.{Reading}
-use Rattle.fields.specs.Table.{Found, Fills, answer, refusalOf, rows_of}
+use Rattle.fields.specs.Table.{Found, Fills, answer, refusal_of, rows_of}
 use Rattle.inplace.specs.declared.readers.Tally.{Tally}
 
 -- the refusal number of an answer, and the rows ahead of its end
 abbrev pub tally_of : Reading → Tally
-tally_of r = record { refusal = refusalOf r; rows = rows_of r }
+tally_of r = record { refusal = refusal_of r; rows = rows_of r }
 
 -- what a reader answers and leaves in its three lent columns
 pub record Tallies {A : Type 0} (f g h : A → ℕ) (found : Found A) (a b c : List ℕ) (t : Tally) (a' b' c' : List ℕ) : Type 0 where

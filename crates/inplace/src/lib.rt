@@ -5,7 +5,7 @@ mod told;
 ghost use Rattle.std.specs.Prelude.{◌≡◌, get_or};
 ghost use Rattle.heads.specs.View.{cols};
 ghost use Rattle.pulls.specs.Pulls.{lent};
-ghost use Rattle.inplace.specs.Calls.{eightOf, streamsIn, plan_of, begunNumber, BeginsInPlace, GivesInPlace};
+ghost use Rattle.inplace.specs.Calls.{eight_of, streams_in, plan_of, begun_number, BeginsInPlace, GivesInPlace};
 
 pub use readers::Tally;
 pub use rules::Settings;
@@ -41,7 +41,7 @@ struct Carried {
 
 // The number of what a start answers.
 fn begun_number(b: Begins) -> u64
-    ensures { result ≡ begunNumber b }
+    ensures { result ≡ begun_number b }
 {
     match b {
         Begins::Begun => 0,
@@ -64,7 +64,7 @@ fn at_or_zero(s: &[usize], k: usize) -> usize
 
 // The first eight numbers, with 0 for those that are not there.
 fn eight_of(s: &[usize]) -> [usize; 8]
-    ensures { result ≡ eightOf s.now }
+    ensures { result ≡ eight_of s.now }
 {
     [
         at_or_zero(s, 0),
@@ -80,7 +80,7 @@ fn eight_of(s: &[usize]) -> [usize; 8]
 
 // How many streams there are: none where the two ends of their ranges are not of that number.
 fn streams_in(streams: usize, from: usize, to: usize) -> usize
-    ensures { result ≡ streamsIn streams from to }
+    ensures { result ≡ streams_in streams from to }
 {
     if (from == streams) & (to == streams) {
         return streams;

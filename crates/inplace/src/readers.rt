@@ -1,8 +1,8 @@
 // The readers for hosts: a text to columns that the host lends.
 ghost use Rattle.std.specs.Prelude.{◌≡◌, length};
-ghost use Rattle.chroms.specs.Entry.{listFound, fromOf, toOf, len_of};
-ghost use Rattle.chroms.specs.Check.{checkOf, checkNumber};
-ghost use Rattle.rows.specs.Row.{rowsFound, chromOf, start_of, stopOf};
+ghost use Rattle.chroms.specs.Entry.{list_found, from_of, to_of, len_of};
+ghost use Rattle.chroms.specs.Check.{check_of, check_number};
+ghost use Rattle.rows.specs.Row.{rows_found, chrom_of, start_of, stop_of};
 ghost use Rattle.inplace.specs.Tally.{tally_of, Tallies};
 
 use chroms::Check;
@@ -42,7 +42,7 @@ fn tally_of(r: Reading) -> Tally
 
 // The number of what a check of a list answers.
 fn check_number(c: Check) -> u64
-    ensures { result ≡ checkNumber c }
+    ensures { result ≡ check_number c }
 {
     match c {
         Check::Fine => 0,
@@ -59,7 +59,7 @@ pub extern "C" fn cedarlash_read_list(
     to: &mut [usize],
     len: &mut [u64],
 ) -> Tally
-    ensures { Tallies fromOf toOf len_of (listFound text.now (length from.old) (length to.old) (length len.old))
+    ensures { Tallies from_of to_of len_of (list_found text.now (length from.old) (length to.old) (length len.old))
         from.old to.old len.old result from.new to.new len.new }
 {
     let r = chroms::read_list(text, from, to, len);
@@ -78,7 +78,7 @@ pub extern "C" fn cedarlash_read_rows(
     start: &mut [u64],
     stop: &mut [u64],
 ) -> Tally
-    ensures { Tallies chromOf start_of stopOf (rowsFound text.now list.now from.now to.now (length chrom.old) (length start.old) (length stop.old))
+    ensures { Tallies chrom_of start_of stop_of (rows_found text.now list.now from.now to.now (length chrom.old) (length start.old) (length stop.old))
         chrom.old start.old stop.old result chrom.new start.new stop.new }
 {
     let r = rows::read_rows(text, list, from, to, chrom, start, stop);
@@ -88,7 +88,7 @@ pub extern "C" fn cedarlash_read_rows(
 // Checks a list of names, given as where each starts and ends in a text: 1 for its sizes, 2 for its names, 0 for neither.
 #[unsafe(no_mangle)]
 pub extern "C" fn cedarlash_check_list(text: &[u8], from: &[usize], to: &[usize]) -> u64
-    ensures { result ≡ checkNumber (checkOf text.now from.now to.now) }
+    ensures { result ≡ check_number (check_of text.now from.now to.now) }
 {
     let c = chroms::check_list(text, from, to);
     check_number(c)

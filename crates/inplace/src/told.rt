@@ -1,6 +1,6 @@
 // What bases came to, in numbers: what was offered after them, and what stopped them.
 ghost use Rattle.std.specs.Prelude.{◌≡◌};
-ghost use Rattle.inplace.specs.Told.{offeredOf, stopsBy, endStops, stoppedOf};
+ghost use Rattle.inplace.specs.Told.{offered_of, stops_by, end_stops, stopped_of};
 
 use rules::{Answer, End, Offer};
 
@@ -24,7 +24,7 @@ pub struct Stopped {
 
 // What is told of an offer.
 pub fn offered_of(o: Offer) -> Offered
-    ensures { result ≡ offeredOf o }
+    ensures { result ≡ offered_of o }
 {
     match o {
         Offer::Nothing => Offered {
@@ -45,7 +45,7 @@ pub fn offered_of(o: Offer) -> Offered
 
 // A refusal by this number, with the stream and row that it names.
 fn stops_by(number: u64, stream: u64, row: u64) -> Stopped
-    ensures { result ≡ stopsBy number stream row }
+    ensures { result ≡ stops_by number stream row }
 {
     Stopped {
         refusal: number,
@@ -56,7 +56,7 @@ fn stops_by(number: u64, stream: u64, row: u64) -> Stopped
 
 // What is told of the end of a run.
 fn end_stops(e: End) -> Stopped
-    ensures { result ≡ endStops e }
+    ensures { result ≡ end_stops e }
 {
     match e {
         End::Faulty(s, k) => stops_by(7, s.0, k),
@@ -68,7 +68,7 @@ fn end_stops(e: End) -> Stopped
 
 // What is told of what the base behind the answered ones got.
 pub fn stopped_of(a: Answer) -> Stopped
-    ensures { result ≡ stoppedOf a }
+    ensures { result ≡ stopped_of a }
 {
     match a {
         Answer::Found(n, o) => stops_by(0, 0, 0),

@@ -16,15 +16,15 @@ read_back g (x ∷ l) p h =
     let rest : build g (length l) (suc p) ≡ l = read_back g l (suc p) (λ i b. ap g (let e : suc p + i ≡ p + suc i = omega arith in e) ∙ h (suc i) (omega arith)) in
     rw (first, rest)
 
-pub get-map : {A B : Type 0} (f : A → B) (l : List A) (i : ℕ) (d : A) (e : B) → i < length l → get_or (map f l) i e ≡ f (get_or l i d)
-get-map f [] i d e h = absurd (omega arith)
-get-map f (x ∷ l) zero d e h = refl
-get-map f (x ∷ l) (suc i) d e h = get-map f l i d e (omega arith)
+pub get_map : {A B : Type 0} (f : A → B) (l : List A) (i : ℕ) (d : A) (e : B) → i < length l → get_or (map f l) i e ≡ f (get_or l i d)
+get_map f [] i d e h = absurd (omega arith)
+get_map f (x ∷ l) zero d e h = refl
+get_map f (x ∷ l) (suc i) d e h = get_map f l i d e (omega arith)
 
-pub map-build : {A B : Type 0} (f : A → B) (g : ℕ → A) (k i : ℕ) → map f (build g k i) ≡ build (λ j. f (g j)) k i
+pub map_build : {A B : Type 0} (f : A → B) (g : ℕ → A) (k i : ℕ) → map f (build g k i) ≡ build (λ j. f (g j)) k i
 unfolding build
-map-build f g zero i = refl
-map-build f g (suc k) i = ap (λ (l : List _). f (g i) ∷ l) (map-build f g k (suc i))
+map_build f g zero i = refl
+map_build f g (suc k) i = ap (λ (l : List _). f (g i) ∷ l) (map_build f g k (suc i))
 
 -- a column whose part of `room` slots from p on was filled with f of each row
 module _ {A : Type 0} (f : A → ℕ) (l : List A) (p room : ℕ) (old : List ℕ) (fits : p + room ≤ length old) (few : length l ≤ room) where
@@ -34,8 +34,8 @@ module _ {A : Type 0} (f : A → ℕ) (l : List A) (p room : ℕ) (old : List �
   ahead : length (take p old) ≡ p
   ahead = length-take p old ∙ omega arith
 
-  pub filled-length : length filled ≡ length old
-  filled-length =
+  pub filled_length : length filled ≡ length old
+  filled_length =
       let a = length-append (take p old) (map f l ++ drop (length l) (take room (drop p old)) ++ drop room (drop p old)) in
       let b = length-append (map f l ++ drop (length l) (take room (drop p old))) (drop room (drop p old)) in
       let c = length-append (map f l) (drop (length l) (take room (drop p old))) in
@@ -46,8 +46,8 @@ module _ {A : Type 0} (f : A → ℕ) (l : List A) (p room : ℕ) (old : List �
       let m = length-map l f in
       omega (arith, a, b, c, d, e, g, h, m, ahead)
 
-  pub filled-below : (i : ℕ) → i < p → get_or filled i 0 ≡ get_or old i 0
-  filled-below i h = get_or-append (take p old) _ 0 i (omega (arith, ahead)) ∙ get_or-take p old i 0 h
+  pub filled_below : (i : ℕ) → i < p → get_or filled i 0 ≡ get_or old i 0
+  filled_below i h = get_or-append (take p old) _ 0 i (omega (arith, ahead)) ∙ get_or-take p old i 0 h
 
   pub filled_row : (i : ℕ) (d : A) → i < length l → get_or filled (p + i) 0 ≡ f (get_or l i d)
   filled_row i d h =
@@ -56,4 +56,4 @@ module _ {A : Type 0} (f : A → ℕ) (l : List A) (p room : ℕ) (old : List �
       ∙ get_or-append-add (take p old) (map f l ++ drop (length l) (take room (drop p old)) ++ drop room (drop p old)) i 0
       ∙ get_or-append (map f l ++ drop (length l) (take room (drop p old))) (drop room (drop p old)) 0 i (omega (arith, m, length-append (map f l) (drop (length l) (take room (drop p old)))))
       ∙ get_or-append (map f l) (drop (length l) (take room (drop p old))) 0 i (omega (arith, m))
-      ∙ get-map f l i d 0 h
+      ∙ get_map f l i d 0 h

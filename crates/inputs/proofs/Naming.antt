@@ -11,21 +11,21 @@ use lib.Seq.{take_at}
 use borrow.Author.Tests.{le-leb}
 use Rattle.basics.specs.Lists.{All, nil, cons}
 use Rattle.rules.specs.Streams.{else}
-use Rattle.rules.specs.Start.{refusesStart}
+use Rattle.rules.specs.Start.{refuses_start}
 use Rattle.fields.specs.Number.{Read, good, bad, number_of}
 use Rattle.fields.specs.Names.{part, within, names}
 use Rattle.fields.specs.Cut.{onto, cut, lines}
-use Rattle.fields.specs.Table.{Found, passed, rowStep, readLines, readText, answer, rows_of, Fills}
+use Rattle.fields.specs.Table.{Found, passed, row_step, read_lines, read_text, answer, rows_of, Fills}
 use Rattle.fields.specs.declared.Reading.{Reading}
 use Rattle.chroms.specs.declared.Entry.{Entry}
 use Rattle.chroms.specs.declared.Check.{Check}
-use Rattle.chroms.specs.Entry.{sized, entryFrom, entry_of, listFound, fromOf, toOf, len_of}
-use Rattle.chroms.specs.Check.{checkOf}
+use Rattle.chroms.specs.Entry.{sized, entry_from, entry_of, list_found, from_of, to_of, len_of}
+use Rattle.chroms.specs.Check.{check_of}
 use Rattle.chroms.proofs.Entries.{list_read}
-use Rattle.inputs.specs.Texts.{rowsMost, entriesIn, namesIn, lensIn, Fault, foundFault, unbegunFault, settingsIn}
-use Rattle.inputs.specs.Read.{faultBy, first_of, verdictAt, checkVerdict, Named, NamesRead}
+use Rattle.inputs.specs.Texts.{rows_most, entries_in, names_in, lens_in, Fault, found_fault, unbegun_fault, settings_in}
+use Rattle.inputs.specs.Read.{fault_by, first_of, verdict_at, check_verdict, Named, NamesRead}
 use Rattle.inputs.specs.declared.Verdict.{Verdict}
-use Rattle.inputs.proofs.Faults.{first_else, text-few, text-count, read-fault, check-fault}
+use Rattle.inputs.proofs.Faults.{first_else, text_few, text_count, read_fault, check_fault}
 
 -- ---- lines and fields are no longer than what they part
 
@@ -34,10 +34,10 @@ spread : List (List ℕ) → ℕ
 spread [] = 0
 spread (l ∷ ls) = suc (length l) + spread ls
 
-cut-spread : (c : ℕ) (l : List ℕ) → spread (cut c l) ≡ suc (length l)
+cut_spread : (c : ℕ) (l : List ℕ) → spread (cut c l) ≡ suc (length l)
 unfolding cut spread
-cut-spread c [] = refl
-cut-spread c (b ∷ l) = go (eqb b c) (cut c l) (cut-spread c l)
+cut_spread c [] = refl
+cut_spread c (b ∷ l) = go (eqb b c) (cut c l) (cut_spread c l)
   where
     go : (t : Bool) (ps : List (List ℕ)) → spread ps ≡ suc (length l) → spread (cond t ([] ∷ ps) (onto b ps)) ≡ suc (suc (length l))
     go true ps h = omega (arith, h)
@@ -53,27 +53,27 @@ abbrev InsideIf : ℕ → Read Entry → Type 0
 InsideIf n (good e) = Inside n e
 InsideIf n bad = Unit {0}
 
-entry-inside : (at : ℕ) (line : List ℕ) (n : ℕ) → at + length line ≤ n → InsideIf n (entry_of at line)
+entry_inside : (at : ℕ) (line : List ℕ) (n : ℕ) → at + length line ≤ n → InsideIf n (entry_of at line)
 unfolding entry_of spread
-entry-inside at line n h = go (cut 9 line) (cut-spread 9 line)
+entry_inside at line n h = go (cut 9 line) (cut_spread 9 line)
   where
     by_length : (name : List ℕ) (r : Read ℕ) → length name ≤ length line → InsideIf n (sized at name r)
     by_length name (good len) b = (omega arith, omega arith)
     by_length name bad b = tt
 
-    go : (fs : List (List ℕ)) → spread fs ≡ suc (length line) → InsideIf n (entryFrom at fs)
+    go : (fs : List (List ℕ)) → spread fs ≡ suc (length line) → InsideIf n (entry_from at fs)
     go [] e = tt
     go (name ∷ []) e = (omega arith, omega arith)
     go (name ∷ len ∷ []) e = by_length name (number_of len) (omega arith)
     go (name ∷ len ∷ third ∷ more) e = tt
 
-entries-inside : (n slots at : ℕ) (ls : List (List ℕ)) → at + spread ls ≤ suc n → All (Inside n) (readLines entry_of slots at ls).rows
-unfolding readLines spread
-entries-inside n slots at [] h = nil
-entries-inside n slots at (l ∷ ls) h = go (λ k. entries-inside n k (at + suc (length l)) ls (omega arith)) (passed l) slots (entry_of at l) (entry-inside at l n (omega arith))
+entries_inside : (n slots at : ℕ) (ls : List (List ℕ)) → at + spread ls ≤ suc n → All (Inside n) (read_lines entry_of slots at ls).rows
+unfolding read_lines spread
+entries_inside n slots at [] h = nil
+entries_inside n slots at (l ∷ ls) h = go (λ k. entries_inside n k (at + suc (length l)) ls (omega arith)) (passed l) slots (entry_of at l) (entry_inside at l n (omega arith))
   where
-    go : ((k : ℕ) → All (Inside n) (readLines entry_of k (at + suc (length l)) ls).rows) → (t : Bool) (slots : ℕ) (r : Read Entry) → InsideIf n r →
-        All (Inside n) (cond t (readLines entry_of slots (at + suc (length l)) ls) (rowStep slots r (readLines entry_of (pred slots) (at + suc (length l)) ls))).rows
+    go : ((k : ℕ) → All (Inside n) (read_lines entry_of k (at + suc (length l)) ls).rows) → (t : Bool) (slots : ℕ) (r : Read Entry) → InsideIf n r →
+        All (Inside n) (cond t (read_lines entry_of slots (at + suc (length l)) ls) (row_step slots r (read_lines entry_of (pred slots) (at + suc (length l)) ls))).rows
     go ih true slots r i = ih slots
     go ih false slots bad i = nil
     go ih false zero (good e) i = nil
@@ -81,95 +81,95 @@ entries-inside n slots at (l ∷ ls) h = go (λ k. entries-inside n k (at + suc 
 
 -- ---- entries as columns
 
-within-map : (n : ℕ) {es : List Entry} → All (Inside n) es → within n (map fromOf es) (map toOf es) ≡ true
+within_map : (n : ℕ) {es : List Entry} → All (Inside n) es → within n (map from_of es) (map to_of es) ≡ true
 unfolding within
-within-map n nil = refl
-within-map n (cons {x = e} i more) = rw (le-leb e.from e.to i.0, le-leb e.to n i.1) (within-map n more)
+within_map n nil = refl
+within_map n (cons {x = e} i more) = rw (le-leb e.from e.to i.0, le-leb e.to n i.1) (within_map n more)
 
-names-map : (list : List ℕ) (es : List Entry) → names list (map fromOf es) (map toOf es) ≡ map (λ e. part e.from e.to list) es
+names_map : (list : List ℕ) (es : List Entry) → names list (map from_of es) (map to_of es) ≡ map (λ e. part e.from e.to list) es
 unfolding names
-names-map list [] = refl
-names-map list (e ∷ es) = ap (λ (l : List (List ℕ)). part e.from e.to list ∷ l) (names-map list es)
+names_map list [] = refl
+names_map list (e ∷ es) = ap (λ (l : List (List ℕ)). part e.from e.to list ∷ l) (names_map list es)
 
 -- ---- the reading of a list
 
-pub names-few : (list : List ℕ) → length (entriesIn list).rows ≤ rowsMost
-names-few list = text-few entry_of rowsMost list
+pub names_few : (list : List ℕ) → length (entries_in list).rows ≤ rows_most
+names_few list = text_few entry_of rows_most list
 
-module _ (list from to len : List ℕ) (r : Reading) (from' to' len' : List ℕ) (lf : length from ≡ rowsMost) (lt : length to ≡ rowsMost) (ll : length len ≡ rowsMost)
-    (fills : Fills fromOf toOf len_of (listFound list (length from) (length to) (length len)) from to len r from' to' len') where
-  found-is : listFound list (length from) (length to) (length len) ≡ entriesIn list
-  found-is = list_read list (length from) (length to) (length len) (lt ∙ sym lf) (ll ∙ sym lf) ∙ ap (λ (n : ℕ). readText entry_of n list) lf
+module _ (list from to len : List ℕ) (r : Reading) (from' to' len' : List ℕ) (lf : length from ≡ rows_most) (lt : length to ≡ rows_most) (ll : length len ≡ rows_most)
+    (fills : Fills from_of to_of len_of (list_found list (length from) (length to) (length len)) from to len r from' to' len') where
+  found_is : list_found list (length from) (length to) (length len) ≡ entries_in list
+  found_is = list_read list (length from) (length to) (length len) (lt ∙ sym lf) (ll ∙ sym lf) ∙ ap (λ (n : ℕ). read_text entry_of n list) lf
 
   abbrev rows : List Entry
-  rows = (entriesIn list).rows
+  rows = (entries_in list).rows
 
-  answered : r ≡ answer (entriesIn list).end (length rows)
-  answered = fills.answered ∙ ap (λ (f : Found Entry). answer f.end (length f.rows)) found-is
+  answered : r ≡ answer (entries_in list).end (length rows)
+  answered = fills.answered ∙ ap (λ (f : Found Entry). answer f.end (length f.rows)) found_is
 
-  pub names-count : rows_of r ≡ length rows
-  names-count = ap rows_of answered ∙ text-count entry_of rowsMost list
+  pub names_count : rows_of r ≡ length rows
+  names_count = ap rows_of answered ∙ text_count entry_of rows_most list
 
   -- a column: what was read, and its length
-  module _ (f : Entry → ℕ) (old new : List ℕ) (long : length old ≡ rowsMost) (is : new ≡ map f (listFound list (length from) (length to) (length len)).rows ++ drop (length (listFound list (length from) (length to) (length len)).rows) old) where
-    is-rows : new ≡ map f rows ++ drop (length rows) old
-    is-rows = is ∙ ap (λ (g : Found Entry). map f g.rows ++ drop (length g.rows) old) found-is
+  module _ (f : Entry → ℕ) (old new : List ℕ) (long : length old ≡ rows_most) (is : new ≡ map f (list_found list (length from) (length to) (length len)).rows ++ drop (length (list_found list (length from) (length to) (length len)).rows) old) where
+    is_rows : new ≡ map f rows ++ drop (length rows) old
+    is_rows = is ∙ ap (λ (g : Found Entry). map f g.rows ++ drop (length g.rows) old) found_is
 
-    read-part : take (rows_of r) new ≡ map f rows
-    read-part = rw (is-rows) (take_at (map f rows) (drop (length rows) old) (rows_of r) (length-map rows f ∙ sym names-count))
+    read_part : take (rows_of r) new ≡ map f rows
+    read_part = rw (is_rows) (take_at (map f rows) (drop (length rows) old) (rows_of r) (length-map rows f ∙ sym names_count))
 
-    read-long : length new ≡ rowsMost
-    read-long =
+    read_long : length new ≡ rows_most
+    read_long =
         let a = length-append (map f rows) (drop (length rows) old) in
         let b = length-drop (length rows) old in
         let c = length-map rows f in
-        rw (is-rows) (omega (arith, a, b, c, names-few list, long))
+        rw (is_rows) (omega (arith, a, b, c, names_few list, long))
 
-  pub from-long : length from' ≡ rowsMost
-  from-long = read-long fromOf from from' lf fills.first
+  pub from_long : length from' ≡ rows_most
+  from_long = read_long from_of from from' lf fills.first
 
-  pub to-long : length to' ≡ rowsMost
-  to-long = read-long toOf to to' lt fills.second
+  pub to_long : length to' ≡ rows_most
+  to_long = read_long to_of to to' lt fills.second
 
-  pub len-long : length len' ≡ rowsMost
-  len-long = read-long len_of len len' ll fills.third
+  pub len_long : length len' ≡ rows_most
+  len_long = read_long len_of len len' ll fills.third
 
   inside : within (length list) (take (rows_of r) from') (take (rows_of r) to') ≡ true
   unfolding spread
   inside =
-      let a : 0 + spread (lines list) ≤ suc (length list) = omega (arith, cut-spread 10 list) in
-      rw (read-part fromOf from from' lf fills.first, read-part toOf to to' lt fills.second) (within-map (length list) (entries-inside (length list) rowsMost 0 (lines list) a))
+      let a : 0 + spread (lines list) ≤ suc (length list) = omega (arith, cut_spread 10 list) in
+      rw (read_part from_of from from' lf fills.first, read_part to_of to to' lt fills.second) (within_map (length list) (entries_inside (length list) rows_most 0 (lines list) a))
 
-  pub names-named : Named list (rows_of r) from' to' len'
-  names-named = record {
-    few = omega (arith, names-count, names-few list);
+  pub names_named : Named list (rows_of r) from' to' len'
+  names_named = record {
+    few = omega (arith, names_count, names_few list);
     inside = inside;
-    named = rw (read-part fromOf from from' lf fills.first, read-part toOf to to' lt fills.second) (names-map list rows);
-    lengths = read-part len_of len len' ll fills.third;
+    named = rw (read_part from_of from from' lf fills.first, read_part to_of to to' lt fills.second) (names_map list rows);
+    lengths = read_part len_of len len' ll fills.third;
   }
 
   abbrev judged : ℕ → List (List ℕ) → Option Fault
-  judged k ns = unbegunFault (refusesStart (settingsIn k ns) ns)
+  judged k ns = unbegun_fault (refuses_start (settings_in k ns) ns)
 
-  pub names-read : NamesRead list (record { verdict = first_of (verdictAt 0 r) (checkVerdict (checkOf list (take (rows_of r) from') (take (rows_of r) to'))); count = rows_of r }) from' to' len'
-  names-read = record {
+  pub names_read : NamesRead list (record { verdict = first_of (verdict_at 0 r) (check_verdict (check_of list (take (rows_of r) from') (take (rows_of r) to'))); count = rows_of r }) from' to' len'
+  names_read = record {
     verdict = λ k low high.
-        first_else (verdictAt 0 r) (checkVerdict (checkOf list (take (rows_of r) from') (take (rows_of r) to')))
-        ∙ ap (λ (o : Option Fault). else (faultBy (verdictAt 0 r)) o) (check-fault k list (take (rows_of r) from') (take (rows_of r) to') low high inside ∙ ap (judged k) names-named.named)
-        ∙ ap (λ (o : Option Fault). else o (judged k (namesIn list))) (ap (λ (x : Reading). faultBy (verdictAt 0 x)) answered ∙ read-fault 0 (entriesIn list).end (length rows));
-    columns = names-named;
+        first_else (verdict_at 0 r) (check_verdict (check_of list (take (rows_of r) from') (take (rows_of r) to')))
+        ∙ ap (λ (o : Option Fault). else (fault_by (verdict_at 0 r)) o) (check_fault k list (take (rows_of r) from') (take (rows_of r) to') low high inside ∙ ap (judged k) names_named.named)
+        ∙ ap (λ (o : Option Fault). else o (judged k (names_in list))) (ap (λ (x : Reading). fault_by (verdict_at 0 x)) answered ∙ read_fault 0 (entries_in list).end (length rows));
+    columns = names_named;
   }
 
   -- the same, from what each call answers
-  pub names-got : {n : ℕ} {c : Check} {a b v : Verdict} → n ≡ rows_of r → c ≡ checkOf list (take n from') (take n to') → a ≡ verdictAt 0 r → b ≡ checkVerdict c → v ≡ first_of a b → NamesRead list (record { verdict = v; count = n }) from' to' len'
-  names-got {n} {c} {a} {b} {v} hn hc ha hb hv =
-      let is-check : c ≡ checkOf list (take (rows_of r) from') (take (rows_of r) to') = hc ∙ ap (λ (k : ℕ). checkOf list (take k from') (take k to')) hn in
-      let is : v ≡ first_of (verdictAt 0 r) (checkVerdict (checkOf list (take (rows_of r) from') (take (rows_of r) to'))) = hv ∙ rw (ha, hb, is-check) in
-      rw (is, hn) names-read
+  pub names_got : {n : ℕ} {c : Check} {a b v : Verdict} → n ≡ rows_of r → c ≡ check_of list (take n from') (take n to') → a ≡ verdict_at 0 r → b ≡ check_verdict c → v ≡ first_of a b → NamesRead list (record { verdict = v; count = n }) from' to' len'
+  names_got {n} {c} {a} {b} {v} hn hc ha hb hv =
+      let is-check : c ≡ check_of list (take (rows_of r) from') (take (rows_of r) to') = hc ∙ ap (λ (k : ℕ). check_of list (take k from') (take k to')) hn in
+      let is : v ≡ first_of (verdict_at 0 r) (check_verdict (check_of list (take (rows_of r) from') (take (rows_of r) to'))) = hv ∙ rw (ha, hb, is-check) in
+      rw (is, hn) names_read
 
   -- the columns hold them
-  pub count-from : {n : ℕ} → n ≡ rows_of r → n ≤ length from'
-  count-from h = omega (arith, h, names-count, names-few list, from-long)
+  pub count_from : {n : ℕ} → n ≡ rows_of r → n ≤ length from'
+  count_from h = omega (arith, h, names_count, names_few list, from_long)
 
-  pub count-to : {n : ℕ} → n ≡ rows_of r → n ≤ length to'
-  count-to h = omega (arith, h, names-count, names-few list, to-long)
+  pub count_to : {n : ℕ} → n ≡ rows_of r → n ≤ length to'
+  count_to h = omega (arith, h, names_count, names_few list, to_long)

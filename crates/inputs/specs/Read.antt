@@ -11,9 +11,9 @@ use Rattle.rows.specs.declared.Row.{Row}
 use Rattle.chroms.specs.declared.Check.{Check}
 use Rattle.chroms.specs.declared.Check.TheVariants as check
 use Rattle.heads.specs.View.{Cols}
-use Rattle.runs.specs.Start.{streamsOf}
-use Rattle.inputs.specs.Texts.{Texts, Fault, fault, rowsMost, namesIn, lensIn, rowsIn, basesOf, streamsIn, listFault, streamsFault, faultOf, sizesFault}
-use Rattle.inputs.specs.Parted.{sizedBy}
+use Rattle.runs.specs.Start.{streams_of}
+use Rattle.inputs.specs.Texts.{Texts, Fault, fault, rows_most, names_in, lens_in, rows_in, bases_of, streams_in, list_fault, streams_fault, fault_of, sizes_fault}
+use Rattle.inputs.specs.Parted.{sized_by}
 use Rattle.inputs.specs.declared.Verdict.{Verdict}
 use Rattle.inputs.specs.declared.Verdict.TheVariants as verdict
 use Rattle.inputs.specs.declared.Names.{Names}
@@ -22,9 +22,9 @@ use Rattle.inputs.specs.declared.Read.{Read}
 
 -- ---- what is wrong
 
-abbrev pub faultBy : Verdict → Option Fault
-faultBy verdict.Fine = none
-faultBy (verdict.Fault number text ahead) = some (fault number text ahead)
+abbrev pub fault_by : Verdict → Option Fault
+fault_by verdict.Fine = none
+fault_by (verdict.Fault number text ahead) = some (fault number text ahead)
 
 -- the first of two
 abbrev pub first_of : Verdict → Verdict → Verdict
@@ -32,49 +32,49 @@ first_of verdict.Fine v = v
 first_of (verdict.Fault number text ahead) v = verdict.Fault number text ahead
 
 -- 11 and 12 of a text, by how its reading ended
-abbrev pub verdictAt : ℕ → Reading → Verdict
-verdictAt k (Whole n) = verdict.Fine
-verdictAt k (Malformed n) = verdict.Fault 11 k n
-verdictAt k (Full n) = verdict.Fault 12 k n
-verdictAt k Refused = verdict.Fault 1 0 0
+abbrev pub verdict_at : ℕ → Reading → Verdict
+verdict_at k (Whole n) = verdict.Fine
+verdict_at k (Malformed n) = verdict.Fault 11 k n
+verdict_at k (Full n) = verdict.Fault 12 k n
+verdict_at k Refused = verdict.Fault 1 0 0
 
 -- 1 and 2 of the list
-abbrev pub checkVerdict : Check → Verdict
-checkVerdict check.Fine = verdict.Fine
-checkVerdict check.Sizes = verdict.Fault 1 0 0
-checkVerdict check.Names = verdict.Fault 2 0 0
+abbrev pub check_verdict : Check → Verdict
+check_verdict check.Fine = verdict.Fine
+check_verdict check.Sizes = verdict.Fault 1 0 0
+check_verdict check.Names = verdict.Fault 2 0 0
 
 -- ---- the columns
 
 -- the names' columns hold those of the list
 pub record Named (list : List ℕ) (n : ℕ) (from to len : List ℕ) : Type 0 where
-  pub few : n ≤ rowsMost
+  pub few : n ≤ rows_most
   pub inside : within (length list) (take n from) (take n to) ≡ true
-  pub named : names list (take n from) (take n to) ≡ namesIn list
-  pub lengths : take n len ≡ lensIn list
+  pub named : names list (take n from) (take n to) ≡ names_in list
+  pub lengths : take n len ≡ lens_in list
 
 pub record NamesRead (list : List ℕ) (r : Names) (from to len : List ℕ) : Type 0 where
-  pub verdict : (k : ℕ) → 1 ≤ k → k ≤ 8 → faultBy r.verdict ≡ listFault k list
+  pub verdict : (k : ℕ) → 1 ≤ k → k ≤ 8 → fault_by r.verdict ≡ list_fault k list
   pub columns : Named list r.count from to len
 
 -- the row at place i of three columns, as a base
-abbrev pub baseIn : Cols → ℕ → Base
-baseIn b i = record { chrom = record { 0 = get_or b.chrom i 0 }; start = get_or b.start i 0; stop = get_or b.stop i 0 }
+abbrev pub base_in : Cols → ℕ → Base
+base_in b i = record { chrom = record { 0 = get_or b.chrom i 0 }; start = get_or b.start i 0; stop = get_or b.stop i 0 }
 
 -- where each stream's rows begin in the columns: each has its own part
 abbrev pub places : List ℕ
 places = 0 ∷ 1024 ∷ 2048 ∷ 3072 ∷ 4096 ∷ 5120 ∷ 6144 ∷ 7168 ∷ []
 
 -- the row at place i of the columns, as a reader gives it
-abbrev pub readIn : Cols → ℕ → Row
-readIn s i = record { chrom = get_or s.chrom i 0; start = get_or s.start i 0; stop = get_or s.stop i 0 }
+abbrev pub read_in : Cols → ℕ → Row
+read_in s i = record { chrom = get_or s.chrom i 0; start = get_or s.start i 0; stop = get_or s.stop i 0 }
 
 -- from place p on there are slots for all that a text may have, and the names stand in the list's text
 pub record Slots (list from to : List ℕ) (p : ℕ) (s : Cols) : Type 0 where
   pub inside : within (length list) from to ≡ true
   pub starts : length s.start ≡ length s.chrom
   pub stops : length s.stop ≡ length s.chrom
-  pub room : p + rowsMost ≤ length s.chrom
+  pub room : p + rows_most ≤ length s.chrom
 
 pub record Kept (s s' : Cols) : Type 0 where
   pub chrom : length s'.chrom ≡ length s.chrom
@@ -83,55 +83,55 @@ pub record Kept (s s' : Cols) : Type 0 where
 
 -- the rows of a text, of these names, stand in the columns from place p on; those ahead of it are as they were
 pub record PartRead (ns : List (List ℕ)) (text : List ℕ) (p : ℕ) (s : Cols) (r : Reading) (s' : Cols) : Type 0 where
-  pub answered : r ≡ answer (rowsIn ns text).end (length (rowsIn ns text).rows)
-  pub few : length (rowsIn ns text).rows ≤ rowsMost
-  pub rows : build (readIn s') (length (rowsIn ns text).rows) p ≡ (rowsIn ns text).rows
-  pub below : (i : ℕ) → i < p → readIn s' i ≡ readIn s i
+  pub answered : r ≡ answer (rows_in ns text).end (length (rows_in ns text).rows)
+  pub few : length (rows_in ns text).rows ≤ rows_most
+  pub rows : build (read_in s') (length (rows_in ns text).rows) p ≡ (rows_in ns text).rows
+  pub below : (i : ℕ) → i < p → read_in s' i ≡ read_in s i
   pub kept : Kept s s'
 
 -- one to eight streams stand in the bytes behind the bases, there is a part of the columns for each, and the names stand in the list's text
 pub record Readable (bytes ends list from to : List ℕ) (s : Cols) : Type 0 where
-  pub sized : sizedBy (length bytes) ends ≡ true
+  pub sized : sized_by (length bytes) ends ≡ true
   pub inside : within (length list) from to ≡ true
-  pub chrom : length s.chrom ≡ 8 * rowsMost
-  pub start : length s.start ≡ 8 * rowsMost
-  pub stop : length s.stop ≡ 8 * rowsMost
+  pub chrom : length s.chrom ≡ 8 * rows_most
+  pub start : length s.start ≡ 8 * rows_most
+  pub stop : length s.stop ≡ 8 * rows_most
 
 -- the columns hold the rows of each stream's text, of these names
 pub record StreamsRead (ns ss : List (List ℕ)) (r : Streams) (s : Cols) : Type 0 where
-  pub verdict : faultBy r.verdict ≡ streamsFault ns 2 ss
-  pub rows : streamsOf s (length ss) places r.to ≡ streamsIn ns ss
+  pub verdict : fault_by r.verdict ≡ streams_fault ns 2 ss
+  pub rows : streams_of s (length ss) places r.to ≡ streams_in ns ss
   pub eight : length r.to ≡ 8
-  pub low : (k : ℕ) → k < length ss → k * rowsMost ≤ get_or r.to k 0
-  pub high : (k : ℕ) → k < length ss → get_or r.to k 0 ≤ k * rowsMost + rowsMost
-  pub chrom : length s.chrom ≡ 8 * rowsMost
-  pub start : length s.start ≡ 8 * rowsMost
-  pub stop : length s.stop ≡ 8 * rowsMost
+  pub low : (k : ℕ) → k < length ss → k * rows_most ≤ get_or r.to k 0
+  pub high : (k : ℕ) → k < length ss → get_or r.to k 0 ≤ k * rows_most + rows_most
+  pub chrom : length s.chrom ≡ 8 * rows_most
+  pub start : length s.start ≡ 8 * rows_most
+  pub stop : length s.stop ≡ 8 * rows_most
 
 -- the columns of texts whose sizes are right: the names', the bases' and the streams'
 pub record Columns (t : Texts) (r : Read) (from to len : List ℕ) (b s : Cols) : Type 0 where
   pub names : Named t.list r.names from to len
-  pub few : r.bases ≤ rowsMost
-  pub bases : build (baseIn b) r.bases 0 ≡ basesOf t
+  pub few : r.bases ≤ rows_most
+  pub bases : build (base_in b) r.bases 0 ≡ bases_of t
   pub streams : r.streams ≡ length t.streams
-  pub rows : streamsOf s (length t.streams) places r.to ≡ streamsIn (namesIn t.list) t.streams
-  pub low : (k : ℕ) → k < length t.streams → k * rowsMost ≤ get_or r.to k 0
-  pub high : (k : ℕ) → k < length t.streams → get_or r.to k 0 ≤ k * rowsMost + rowsMost
+  pub rows : streams_of s (length t.streams) places r.to ≡ streams_in (names_in t.list) t.streams
+  pub low : (k : ℕ) → k < length t.streams → k * rows_most ≤ get_or r.to k 0
+  pub high : (k : ℕ) → k < length t.streams → get_or r.to k 0 ≤ k * rows_most + rows_most
 
 -- the columns are as long as all that a text may have, those of the streams eight times so
 pub record Rooms (from to len : List ℕ) (b s : Cols) : Type 0 where
-  pub names-from : length from ≡ rowsMost
-  pub names-to : length to ≡ rowsMost
-  pub lengths : length len ≡ rowsMost
-  pub base-chrom : length b.chrom ≡ rowsMost
-  pub base-start : length b.start ≡ rowsMost
-  pub base-stop : length b.stop ≡ rowsMost
-  pub chrom : length s.chrom ≡ 8 * rowsMost
-  pub start : length s.start ≡ 8 * rowsMost
-  pub stop : length s.stop ≡ 8 * rowsMost
+  pub names_from : length from ≡ rows_most
+  pub names_to : length to ≡ rows_most
+  pub lengths : length len ≡ rows_most
+  pub base_chrom : length b.chrom ≡ rows_most
+  pub base_start : length b.start ≡ rows_most
+  pub base_stop : length b.stop ≡ rows_most
+  pub chrom : length s.chrom ≡ 8 * rows_most
+  pub start : length s.start ≡ 8 * rows_most
+  pub stop : length s.stop ≡ 8 * rows_most
 
 pub record Reads (t : Texts) (r : Read) (from to len : List ℕ) (b s : Cols) : Type 0 where
-  pub fault : faultBy r.verdict ≡ faultOf t
+  pub fault : fault_by r.verdict ≡ fault_of t
   pub eight : length r.to ≡ 8
   pub rooms : Rooms from to len b s
-  pub columns : sizesFault t ≡ none → Columns t r from to len b s
+  pub columns : sizes_fault t ≡ none → Columns t r from to len b s

@@ -4,9 +4,9 @@ ghost use Rattle.std.specs.Prelude.{◌≡◌, true, ◌+◌, ◌*◌, ◌≤◌
 ghost use Rattle.fields.specs.Names.{within, names};
 ghost use Rattle.fields.specs.Table.{rows_of};
 ghost use Rattle.heads.specs.View.{cols};
-ghost use Rattle.inputs.specs.Texts.{rowsMost};
-ghost use Rattle.inputs.specs.Parted.{partsAll, streamTexts, textsOf, sizedBy};
-ghost use Rattle.inputs.specs.Read.{first_of, verdictAt, checkVerdict, NamesRead, Slots, PartRead, Readable, StreamsRead, Rooms, Reads};
+ghost use Rattle.inputs.specs.Texts.{rows_most};
+ghost use Rattle.inputs.specs.Parted.{parts_all, stream_texts, texts_of, sized_by};
+ghost use Rattle.inputs.specs.Read.{first_of, verdict_at, check_verdict, NamesRead, Slots, PartRead, Readable, StreamsRead, Rooms, Reads};
 
 use chroms::Check;
 use fields::Reading;
@@ -55,7 +55,7 @@ fn first(a: Verdict, b: Verdict) -> Verdict
 
 // What is wrong with text k, by how its reading ended.
 fn verdict_at(k: u64, r: Reading) -> Verdict
-    ensures { result ≡ verdictAt k r }
+    ensures { result ≡ verdict_at k r }
 {
     match r {
         Reading::Whole(n) => Verdict::Fine,
@@ -79,7 +79,7 @@ fn rows_ahead(r: Reading) -> usize
 
 // What is wrong with the list's count of names, or with a name.
 fn check_verdict(c: Check) -> Verdict
-    ensures { result ≡ checkVerdict c }
+    ensures { result ≡ check_verdict c }
 {
     match c {
         Check::Fine => Verdict::Fine,
@@ -90,7 +90,7 @@ fn check_verdict(c: Check) -> Verdict
 
 // Whether the ends part n bytes: none of them falls, and the last is n.
 fn parts_all(n: usize, ends: &[usize]) -> bool
-    ensures { result ≡ partsAll n 0 ends.now }
+    ensures { result ≡ parts_all n 0 ends.now }
 {
     let mut at: usize = 0;
     let mut k: usize = 0;
@@ -107,7 +107,7 @@ fn parts_all(n: usize, ends: &[usize]) -> bool
 
 // Whether there are as many bytes and texts as there may be, and the ends part them.
 fn is_sized(n: usize, ends: &[usize]) -> bool
-    ensures { result ≡ sizedBy n ends.now }
+    ensures { result ≡ sized_by n ends.now }
 {
     let texts = ends.len();
     let few = (3 <= texts) & (texts <= Settings::STREAMS + 2);
@@ -117,8 +117,8 @@ fn is_sized(n: usize, ends: &[usize]) -> bool
 
 // Reads the list to its columns: its 11 and 12, then 1 for its count of names, then 2.
 fn read_names(list: &[u8], from: &mut [usize], to: &mut [usize], len: &mut [u64]) -> Names
-    requires { (length from.old ≡ rowsMost) × (length to.old ≡ rowsMost) × (length len.old ≡ rowsMost) }
-    ensures { NamesRead list.now result from.new to.new len.new × (length from.new ≡ rowsMost) × (length to.new ≡ rowsMost) × (length len.new ≡ rowsMost) }
+    requires { (length from.old ≡ rows_most) × (length to.old ≡ rows_most) × (length len.old ≡ rows_most) }
+    ensures { NamesRead list.now result from.new to.new len.new × (length from.new ≡ rows_most) × (length to.new ≡ rows_most) × (length len.new ≡ rows_most) }
 {
     let r = chroms::read_list(list, from, to, len);
     let n = rows_ahead(r);
@@ -168,7 +168,7 @@ fn read_streams(
     stop: &mut [u64],
 ) -> Streams
     requires { Readable bytes.now ends.now list.now from.now to.now (cols chrom.old start.old stop.old) }
-    ensures { StreamsRead (names list.now from.now to.now) (streamTexts bytes.now ends.now) result
+    ensures { StreamsRead (names list.now from.now to.now) (stream_texts bytes.now ends.now) result
         (cols chrom.new start.new stop.new) }
 {
     let n = ends.len() - 2;
@@ -206,7 +206,7 @@ pub fn read_texts(
     stop: &mut [u64],
 ) -> Read
     requires { Rooms from.old to.old len.old (cols bchrom.old bstart.old bstop.old) (cols chrom.old start.old stop.old) }
-    ensures { Reads (textsOf bytes.now ends.now) result from.new to.new len.new
+    ensures { Reads (texts_of bytes.now ends.now) result from.new to.new len.new
         (cols bchrom.new bstart.new bstop.new) (cols chrom.new start.new stop.new) }
 {
     if !is_sized(bytes.len(), ends) {

@@ -8,12 +8,12 @@ use Rattle.spans.specs.declared.Span.{Span}
 use Rattle.fragment_rules.specs.declared.Giving.{Giving}
 use Rattle.spans.specs.Spans.{span, spans, stretch}
 use Rattle.layouts.specs.Fragments.{walk}
-use Rattle.spans.specs.Turn.{gapEnd, nextPlace}
-use Rattle.layouts.specs.Given.{given, allGiven}
+use Rattle.spans.specs.Turn.{gap_end, next_place}
+use Rattle.layouts.specs.Given.{given, all_given}
 use Rattle.layouts.specs.Layout.{owned}
 use Rattle.spans.specs.Fitting.{fitting}
-use Rattle.layouts.specs.Judged.{allFitting}
-use Rattle.spans.proofs.Columns.{spans-at, spans-end}
+use Rattle.layouts.specs.Judged.{all_fitting}
+use Rattle.spans.proofs.Columns.{spans_at, spans_end}
 
 -- the record of a row
 abbrev pub row : List ℕ → List ℕ → ℕ → Span
@@ -25,38 +25,38 @@ rows_from ss es i = drop i (spans ss es)
 
 module _ (ss es : List ℕ) (i : ℕ) (same : length ss ≡ length es) where
   module _ (more : i < length ss) where
-    pub given-at : (g : Giving) (base : Span) → allGiven g base (rows_from ss es i) ≡ given g base (row ss es i) ++ allGiven g base (rows_from ss es (i + 1))
+    pub given_at : (g : Giving) (base : Span) → all_given g base (rows_from ss es i) ≡ given g base (row ss es i) ++ all_given g base (rows_from ss es (i + 1))
     unfolding flat_map
-    given-at g base = ap (λ (l : List Span). allGiven g base l) (spans-at ss es i same more)
+    given_at g base = ap (λ (l : List Span). all_given g base l) (spans_at ss es i same more)
 
     pub walk_at : (place stop : ℕ) → walk place stop (rows_from ss es i) ≡
-        stretch place (gapEnd place (row ss es i)) ++ walk (nextPlace place (row ss es i)) stop (rows_from ss es (i + 1))
+        stretch place (gap_end place (row ss es i)) ++ walk (next_place place (row ss es i)) stop (rows_from ss es (i + 1))
     unfolding walk
-    walk_at place stop = ap (λ (l : List Span). walk place stop l) (spans-at ss es i same more)
+    walk_at place stop = ap (λ (l : List Span). walk place stop l) (spans_at ss es i same more)
 
     pub owned_at : (f : Span → List Span) (at : ℕ) → owned f at (rows_from ss es i) ≡
         (span at (at + length (f (row ss es i))) ∷ []) ++ owned f (at + length (f (row ss es i))) (rows_from ss es (i + 1))
     unfolding owned
-    owned_at f at = ap (λ (l : List Span). owned f at l) (spans-at ss es i same more)
+    owned_at f at = ap (λ (l : List Span). owned f at l) (spans_at ss es i same more)
 
-    pub fitting-at : (base : Span) (ahead : ℕ) → allFitting base ahead (rows_from ss es i) ≡
-        fitting base ahead (row ss es i) && allFitting base (row ss es i).start (rows_from ss es (i + 1))
-    unfolding allFitting
-    fitting-at base ahead = ap (λ (l : List Span). allFitting base ahead l) (spans-at ss es i same more)
+    pub fitting_at : (base : Span) (ahead : ℕ) → all_fitting base ahead (rows_from ss es i) ≡
+        fitting base ahead (row ss es i) && all_fitting base (row ss es i).start (rows_from ss es (i + 1))
+    unfolding all_fitting
+    fitting_at base ahead = ap (λ (l : List Span). all_fitting base ahead l) (spans_at ss es i same more)
 
   module _ (none : length ss ≤ i) where
-    pub given-end : (g : Giving) (base : Span) → allGiven g base (rows_from ss es i) ≡ []
+    pub given_end : (g : Giving) (base : Span) → all_given g base (rows_from ss es i) ≡ []
     unfolding flat_map
-    given-end g base = ap (λ (l : List Span). allGiven g base l) (spans-end ss es i same none)
+    given_end g base = ap (λ (l : List Span). all_given g base l) (spans_end ss es i same none)
 
     pub walk_end : (place stop : ℕ) → walk place stop (rows_from ss es i) ≡ stretch place stop ++ []
     unfolding walk
-    walk_end place stop = ap (λ (l : List Span). walk place stop l) (spans-end ss es i same none) ∙ sym (append-nil (stretch place stop))
+    walk_end place stop = ap (λ (l : List Span). walk place stop l) (spans_end ss es i same none) ∙ sym (append-nil (stretch place stop))
 
-    pub owned-end : (f : Span → List Span) (at : ℕ) → owned f at (rows_from ss es i) ≡ []
+    pub owned_end : (f : Span → List Span) (at : ℕ) → owned f at (rows_from ss es i) ≡ []
     unfolding owned
-    owned-end f at = ap (λ (l : List Span). owned f at l) (spans-end ss es i same none)
+    owned_end f at = ap (λ (l : List Span). owned f at l) (spans_end ss es i same none)
 
-    pub fitting-end : (base : Span) (ahead : ℕ) → allFitting base ahead (rows_from ss es i) ≡ Bool.true
-    unfolding allFitting
-    fitting-end base ahead = ap (λ (l : List Span). allFitting base ahead l) (spans-end ss es i same none)
+    pub fitting_end : (base : Span) (ahead : ℕ) → all_fitting base ahead (rows_from ss es i) ≡ Bool.true
+    unfolding all_fitting
+    fitting_end base ahead = ap (λ (l : List Span). all_fitting base ahead l) (spans_end ss es i same none)

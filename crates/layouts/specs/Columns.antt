@@ -8,11 +8,11 @@ use Rattle.layouts.specs.Fragments.{Fragment}
 use Rattle.layouts.specs.Layout.{Layout, held}
 
 -- the starts of spans, and their stops
-abbrev pub startsOf : List Span → List ℕ
-startsOf xs = map (λ (x : Span). x.start) xs
+abbrev pub starts_of : List Span → List ℕ
+starts_of xs = map (λ (x : Span). x.start) xs
 
-abbrev pub stopsOf : List Span → List ℕ
-stopsOf xs = map (λ (x : Span). x.stop) xs
+abbrev pub stops_of : List Span → List ℕ
+stops_of xs = map (λ (x : Span). x.stop) xs
 
 -- values in front, and behind them what stood there
 abbrev pub over : List ℕ → List ℕ → List ℕ
@@ -23,13 +23,13 @@ abbrev pub mark : Option Span → ℕ
 mark none = 0
 mark (some x) = 1
 
-abbrev pub partStart : Option Span → ℕ
-partStart none = 0
-partStart (some x) = x.start
+abbrev pub part_start : Option Span → ℕ
+part_start none = 0
+part_start (some x) = x.start
 
-abbrev pub partStop : Option Span → ℕ
-partStop none = 0
-partStop (some x) = x.stop
+abbrev pub part_stop : Option Span → ℕ
+part_stop none = 0
+part_stop (some x) = x.stop
 
 abbrev pub part : ℕ → Span → Option Span
 part zero x = none
@@ -50,17 +50,17 @@ abbrev pub holding : Layout → Columns → Columns
 holding l c =
     record {
       present = over (map mark l.bases) c.present;
-      bstart = over (map partStart l.bases) c.bstart;
-      bstop = over (map partStop l.bases) c.bstop;
-      from = over (startsOf l.ranges) c.from;
-      to = over (stopsOf l.ranges) c.to;
-      pstart = over (startsOf l.pieces) c.pstart;
-      pstop = over (stopsOf l.pieces) c.pstop;
+      bstart = over (map part_start l.bases) c.bstart;
+      bstop = over (map part_stop l.bases) c.bstop;
+      from = over (starts_of l.ranges) c.from;
+      to = over (stops_of l.ranges) c.to;
+      pstart = over (starts_of l.pieces) c.pstart;
+      pstop = over (stops_of l.pieces) c.pstop;
     }
 
 -- how a caller reads the first n fragments back from the columns
-abbrev pub readBack : ℕ → Columns → List Fragment
-readBack n c = take n (held (zip_with part c.present (spans c.bstart c.bstop)) (spans c.from c.to) (spans c.pstart c.pstop))
+abbrev pub read_back : ℕ → Columns → List Fragment
+read_back n c = take n (held (zip_with part c.present (spans c.bstart c.bstop)) (spans c.from c.to) (spans c.pstart c.pstop))
 
 abbrev pub columns : List ℕ → List ℕ → List ℕ → List ℕ → List ℕ → List ℕ → List ℕ → Columns
 columns present bstart bstop from to pstart pstop =

@@ -6,7 +6,7 @@ use Rattle.spans.specs.declared.Span.{Span}
 use Rattle.fragment_rules.specs.declared.Choice.{Choice}
 use Rattle.fragment_rules.specs.declared.Choice.TheVariants.{None, Whole, WholeWide, Piece, Inverse}
 use Rattle.spans.specs.Spans.{stretch, clipped, before, after}
-use Rattle.spans.specs.Turn.{gapEnd, nextPlace}
+use Rattle.spans.specs.Turn.{gap_end, next_place}
 
 -- "B None: nothing. B Whole or WholeWide: the record. B Piece: larger start, smaller stop. B Inverse: what lies before base start, then what lies after base stop, where not empty."
 abbrev pub pieces : Choice → Span → Span → List Span
@@ -17,13 +17,13 @@ pieces Piece base r = clipped base r ∷ []
 pieces Inverse base r = before base r ++ after base r
 
 -- "B of all records"
-abbrev pub allPieces : Choice → Span → List Span → List Span
-allPieces b base rs = flat_map (pieces b base) rs
+abbrev pub all_pieces : Choice → Span → List Span → List Span
+all_pieces b base rs = flat_map (pieces b base) rs
 
 -- the gaps from a place of the walk on: "A last gap runs to base stop if the place is below it."
 unfoldable pub walk : ℕ → ℕ → List Span → List Span
 walk place stop [] = stretch place stop
-walk place stop (r ∷ rs) = stretch place (gapEnd place r) ++ walk (nextPlace place r) stop rs
+walk place stop (r ∷ rs) = stretch place (gap_end place r) ++ walk (next_place place r) stop rs
 
 -- the gaps of a base: "Walk from base start"
 abbrev pub gaps : Span → List Span → List Span
@@ -44,8 +44,8 @@ whole b base (r ∷ rs) = map (λ (x : Span). fragment (some base) (pieces b bas
 
 -- "A None or WholeWide: one fragment, base absent or present, B of all records. A Piece: one fragment a record, base clipped to it, B of all records. A Inverse: one fragment a gap, B of all records."
 unfoldable pub fragments : Choice → Choice → Span → List Span → List Fragment
-fragments None b base rs = fragment none (allPieces b base rs) ∷ []
+fragments None b base rs = fragment none (all_pieces b base rs) ∷ []
 fragments Whole b base rs = whole b base rs
-fragments WholeWide b base rs = fragment (some base) (allPieces b base rs) ∷ []
-fragments Piece b base rs = map (λ (r : Span). fragment (some (clipped base r)) (allPieces b base rs)) rs
-fragments Inverse b base rs = map (λ (g : Span). fragment (some g) (allPieces b base rs)) (gaps base rs)
+fragments WholeWide b base rs = fragment (some base) (all_pieces b base rs) ∷ []
+fragments Piece b base rs = map (λ (r : Span). fragment (some (clipped base r)) (all_pieces b base rs)) rs
+fragments Inverse b base rs = map (λ (g : Span). fragment (some g) (all_pieces b base rs)) (gaps base rs)

@@ -19,30 +19,30 @@ given Clip = pieces Piece
 given Outside = pieces Inverse
 
 -- what all records give
-abbrev pub allGiven : Giving → Span → List Span → List Span
-allGiven g base rs = flat_map (given g base) rs
+abbrev pub all_given : Giving → Span → List Span → List Span
+all_given g base rs = flat_map (given g base) rs
 
 -- 0 where the base is absent, 1 where it is present
-abbrev pub markOf : Parting → ℕ
-markOf Bare = 0
-markOf Single = 1
-markOf EachRecord = 1
-markOf EachClip = 1
-markOf EachGap = 1
+abbrev pub mark_of : Parting → ℕ
+mark_of Bare = 0
+mark_of Single = 1
+mark_of EachRecord = 1
+mark_of EachClip = 1
+mark_of EachGap = 1
 
 -- base parts that are all present
-abbrev pub presentAll : List Span → List (Option Span)
-presentAll xs = map (λ (x : Span). some x) xs
+abbrev pub present_all : List Span → List (Option Span)
+present_all xs = map (λ (x : Span). some x) xs
 
 -- the base part of one fragment a record, and of one where there is none
-abbrev pub eachRecord : Span → List Span → List (Option Span)
-eachRecord base [] = some base ∷ []
-eachRecord base (r ∷ rs) = map (λ (x : Span). some base) (r ∷ rs)
+abbrev pub each_record : Span → List Span → List (Option Span)
+each_record base [] = some base ∷ []
+each_record base (r ∷ rs) = map (λ (x : Span). some base) (r ∷ rs)
 
 -- the base parts of the fragments, one a fragment
 unfoldable pub bases : Parting → Span → List Span → List (Option Span)
 bases Bare base rs = none ∷ []
 bases Single base rs = some base ∷ []
-bases EachRecord base rs = eachRecord base rs
-bases EachClip base rs = presentAll (map (clipped base) rs)
-bases EachGap base rs = presentAll (gaps base rs)
+bases EachRecord base rs = each_record base rs
+bases EachClip base rs = present_all (map (clipped base) rs)
+bases EachGap base rs = present_all (gaps base rs)

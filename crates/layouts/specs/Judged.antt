@@ -10,9 +10,9 @@ use Rattle.spans.specs.Fitting.{fitting}
 use Rattle.layouts.specs.Layout.{layout}
 
 -- every record fits the base and the record ahead of it
-unfoldable pub allFitting : Span → ℕ → List Span → Bool
-allFitting base ahead [] = true
-allFitting base ahead (r ∷ rs) = fitting base ahead r && allFitting base r.start rs
+unfoldable pub all_fitting : Span → ℕ → List Span → Bool
+all_fitting base ahead [] = true
+all_fitting base ahead (r ∷ rs) = fitting base ahead r && all_fitting base r.start rs
 
 abbrev pub unless : Bool → Refusal → Answer → Answer
 unless true x a = a
@@ -22,6 +22,6 @@ unless false x a = Refused x
 abbrev pub judged : Rule → Span → List Span → ℕ → ℕ → Answer
 judged rule base rs slots room =
     unless (leb base.start base.stop) Backwards
-    (unless (allFitting base 0 rs) Records
+    (unless (all_fitting base 0 rs) Records
     (unless (leb (length (layout rule base rs).bases) slots && leb (length (layout rule base rs).pieces) room) Room
     (Written (length (layout rule base rs).bases) (length (layout rule base rs).pieces))))

@@ -10,7 +10,7 @@ use Rattle.fragment_rules.specs.declared.Giving.{Giving}
 use Rattle.fragment_rules.specs.declared.Rule.{Rule}
 use Rattle.spans.specs.Spans.{span}
 use Rattle.layouts.specs.Fragments.{Fragment, fragment}
-use Rattle.layouts.specs.Given.{given, allGiven, bases}
+use Rattle.layouts.specs.Given.{given, all_given, bases}
 
 -- the fragments' base parts, the range of places of each one's pieces (from, and up to but not including), and the pieces
 pub record Layout : Type 0 where
@@ -35,18 +35,18 @@ owning EachRecord n = ltb 0 n
 owning EachClip n = false
 owning EachGap n = false
 
-abbrev pub pickSpans : Bool → List Span → List Span → List Span
-pickSpans true xs ys = xs
-pickSpans false xs ys = ys
+abbrev pub pick_spans : Bool → List Span → List Span → List Span
+pick_spans true xs ys = xs
+pick_spans false xs ys = ys
 
 -- the range of each fragment
 abbrev pub ranges : Parting → Giving → Span → List Span → List Span
-ranges p g base rs = pickSpans (owning p (length rs)) (owned (given g base) 0 rs) (shared (length (allGiven g base rs)) (bases p base rs))
+ranges p g base rs = pick_spans (owning p (length rs)) (owned (given g base) 0 rs) (shared (length (all_given g base rs)) (bases p base rs))
 
 -- pieces that no fragment has are not there
-abbrev pub ifAny : List (Option Span) → List Span → List Span
-ifAny [] ps = []
-ifAny (b ∷ bs) ps = ps
+abbrev pub if_any : List (Option Span) → List Span → List Span
+if_any [] ps = []
+if_any (b ∷ bs) ps = ps
 
 -- what a rule lays out
 abbrev pub layout : Rule → Span → List Span → Layout
@@ -54,7 +54,7 @@ layout rule base rs =
     record {
       bases = bases rule.0 base rs;
       ranges = ranges rule.0 rule.1 base rs;
-      pieces = ifAny (bases rule.0 base rs) (allGiven rule.1 base rs);
+      pieces = if_any (bases rule.0 base rs) (all_given rule.1 base rs);
     }
 
 -- the fragments that a layout holds: each with the pieces of its range

@@ -1,7 +1,7 @@
 // The least of the heads of up to eight streams, each four numbers: chromosome, start, stop and row.
 ghost use Rattle.std.specs.Prelude.{◌≡◌, ◌<◌, ◌≤◌};
-ghost use Rattle.least.specs.Fours.{ended?};
-ghost use Rattle.least.specs.Least.{sooner, bestAt, betterOf, leastIn};
+ghost use Rattle.least.specs.Fours.{is_ended};
+ghost use Rattle.least.specs.Least.{sooner, best_at, better_of, least_in};
 
 use rules::{Chrom, Stream};
 
@@ -37,7 +37,7 @@ fn is_sooner(b: Best, x: [u64; 4]) -> bool
 
 // Four numbers as the head of stream k.
 fn best_at(k: Stream, x: [u64; 4]) -> Best
-    ensures { result ≡ bestAt k x }
+    ensures { result ≡ best_at k x }
 {
     Best {
         stream: k,
@@ -50,14 +50,14 @@ fn best_at(k: Stream, x: [u64; 4]) -> Best
 
 // Whether a stream has ended, by its mark: 0, it goes on.
 pub fn has_ended(mark: u64) -> bool
-    ensures { result ≡ ended? mark }
+    ensures { result ≡ is_ended mark }
 {
     mark != 0
 }
 
 // The better of stream k's head and the best of the streams after it: the earlier stream's, unless the other is before it.
 fn better(k: Stream, n: u64, x: [u64; 4], mark: u64, b: Best) -> Best
-    ensures { result ≡ betterOf k n x (ended? mark) b }
+    ensures { result ≡ better_of k n x (is_ended mark) b }
 {
     if n <= k.0 {
         return b;
@@ -78,7 +78,7 @@ fn better(k: Stream, n: u64, x: [u64; 4], mark: u64, b: Best) -> Best
 // The stream of the least head of n streams, the earlier one's of equal heads; 8 where there is none. All eight places are looked at.
 fn least_of(q: [[u64; 4]; 8], ended: [u64; 8], n: usize) -> u64
     requires { n ≤ 8 }
-    ensures { result ≡ (leastIn q ended n).stream.0 }
+    ensures { result ≡ (least_in q ended n).stream.0 }
 {
     let none = Best {
         stream: Stream(8),
@@ -103,7 +103,7 @@ fn least_of(q: [[u64; 4]; 8], ended: [u64; 8], n: usize) -> u64
 // The same of one stream or two: two places are looked at.
 fn least_of_two(q: [[u64; 4]; 8], ended: [u64; 8], n: usize) -> u64
     requires { (0 < n) × (n ≤ 2) }
-    ensures { result ≡ (leastIn q ended n).stream.0 }
+    ensures { result ≡ (least_in q ended n).stream.0 }
 {
     if n < 2 {
         if has_ended(ended[0]) {
@@ -130,7 +130,7 @@ fn least_of_two(q: [[u64; 4]; 8], ended: [u64; 8], n: usize) -> u64
 // The stream of the least head. The heads are handed over by value: of one or two streams two places are looked at, else all eight.
 fn choose<'a>(fours: &'a [[u64; 4]; 8], ended: &'a [u64; 8], n: usize) -> u64
     requires { n ≤ 8 }
-    ensures { result ≡ (leastIn fours.now ended.now n).stream.0 }
+    ensures { result ≡ (least_in fours.now ended.now n).stream.0 }
 {
     if n <= 2 {
         if 0 < n {
@@ -143,7 +143,7 @@ fn choose<'a>(fours: &'a [[u64; 4]; 8], ended: &'a [u64; 8], n: usize) -> u64
 // The least head of n streams, the earlier stream's of equal ones.
 pub fn least<'a>(fours: &'a [[u64; 4]; 8], ended: &'a [u64; 8], n: usize) -> Best
     requires { n ≤ 8 }
-    ensures { result ≡ leastIn fours.now ended.now n }
+    ensures { result ≡ least_in fours.now ended.now n }
 {
     let k = choose(fours, ended, n);
     if 8 <= k {

@@ -8,41 +8,41 @@ use native.Mathlib.Decide.{dec_lt}
 use native.Mathlib.Nat.{pow-suc}
 use lib.ListN.{length, length-append}
 use borrow.Author.Tests.{lt-ltb, le-ltb}
-use Rattle.fields.specs.Number.{good, digits, value, isDigit, number_of}
-use Rattle.fields.proofs.Numbers.{digit-is, good-number}
+use Rattle.fields.specs.Number.{good, digits, value, is_digit, number_of}
+use Rattle.fields.proofs.Numbers.{digit_is, good_number}
 use Rattle.lines.specs.Lines.{digit, spelled, decimal}
 
 -- ---- digit by digit
 
-spelled-one : (f n : ℕ) → n < 10 → spelled f n ≡ digit n ∷ []
+spelled_one : (f n : ℕ) → n < 10 → spelled f n ≡ digit n ∷ []
 unfolding spelled
-spelled-one zero n h = refl
-spelled-one (suc f) n h = rw (lt-ltb n 10 h)
+spelled_one zero n h = refl
+spelled_one (suc f) n h = rw (lt-ltb n 10 h)
 
-spelled-more : (f n : ℕ) → 10 ≤ n → spelled (suc f) n ≡ spelled f (n / 10) ++ (digit (n % 10) ∷ [])
+spelled_more : (f n : ℕ) → 10 ≤ n → spelled (suc f) n ≡ spelled f (n / 10) ++ (digit (n % 10) ∷ [])
 unfolding spelled
-spelled-more f n h = rw (le-ltb n 10 h)
+spelled_more f n h = rw (le-ltb n 10 h)
 
 -- a bound of n or more leaves nothing out
 spelled_same : (f g n : ℕ) → n ≤ f → n ≤ g → spelled f n ≡ spelled g n
-spelled_same zero g n h k = spelled-one zero n (omega arith) ∙ sym (spelled-one g n (omega arith))
-spelled_same (suc f) zero n h k = spelled-one (suc f) n (omega arith) ∙ sym (spelled-one zero n (omega arith))
+spelled_same zero g n h k = spelled_one zero n (omega arith) ∙ sym (spelled_one g n (omega arith))
+spelled_same (suc f) zero n h k = spelled_one (suc f) n (omega arith) ∙ sym (spelled_one zero n (omega arith))
 spelled_same (suc f) (suc g) n h k = go (dec_lt n 10) (λ m. spelled_same f g (n / 10) (omega arith) (omega arith))
   where
     go : Dec (n < 10) → (10 ≤ n → spelled f (n / 10) ≡ spelled g (n / 10)) → spelled (suc f) n ≡ spelled (suc g) n
-    go (yes l) ih = spelled-one (suc f) n l ∙ sym (spelled-one (suc g) n l)
+    go (yes l) ih = spelled_one (suc f) n l ∙ sym (spelled_one (suc g) n l)
     go (no l) ih =
         let m : 10 ≤ n = omega arith in
-        spelled-more f n m ∙ rw (ih m) (sym (spelled-more g n m))
+        spelled_more f n m ∙ rw (ih m) (sym (spelled_more g n m))
 
-pub decimal-one : (n : ℕ) → n < 10 → decimal n ≡ digit n ∷ []
+pub decimal_one : (n : ℕ) → n < 10 → decimal n ≡ digit n ∷ []
 unfolding decimal
-decimal-one n h = spelled-one n n h
+decimal_one n h = spelled_one n n h
 
-pub decimal-more : (n : ℕ) → 10 ≤ n → decimal n ≡ decimal (n / 10) ++ (digit (n % 10) ∷ [])
+pub decimal_more : (n : ℕ) → 10 ≤ n → decimal n ≡ decimal (n / 10) ++ (digit (n % 10) ∷ [])
 unfolding decimal
-decimal-more zero h = absurd (omega arith)
-decimal-more (suc m) h = spelled-more m (suc m) h ∙ rw (spelled_same m (suc m / 10) (suc m / 10) (omega arith) (omega arith))
+decimal_more zero h = absurd (omega arith)
+decimal_more (suc m) h = spelled_more m (suc m) h ∙ rw (spelled_same m (suc m / 10) (suc m / 10) (omega arith) (omega arith))
 
 -- what holds of the numbers of one digit, and goes on from n / 10 to n, holds of every number
 by_digits : (P : ℕ → Type 0) → ((n : ℕ) → n < 10 → P n) → ((n : ℕ) → 10 ≤ n → P (n / 10) → P n) → (n : ℕ) → P n
@@ -58,62 +58,62 @@ by_digits P one more n = below n n (omega arith)
 
 -- ---- how many digits
 
-pub places-one : (n : ℕ) → n < 10 → length (decimal n) ≡ 1
-places-one n h = rw (decimal-one n h)
+pub places_one : (n : ℕ) → n < 10 → length (decimal n) ≡ 1
+places_one n h = rw (decimal_one n h)
 
-pub places-more : (n : ℕ) → 10 ≤ n → length (decimal n) ≡ length (decimal (n / 10)) + 1
-places-more n h = ap length (decimal-more n h) ∙ length-append (decimal (n / 10)) (digit (n % 10) ∷ [])
+pub places_more : (n : ℕ) → 10 ≤ n → length (decimal n) ≡ length (decimal (n / 10)) + 1
+places_more n h = ap length (decimal_more n h) ∙ length-append (decimal (n / 10)) (digit (n % 10) ∷ [])
 
-pub places-some : (n : ℕ) → 1 ≤ length (decimal n)
-places-some n = by_digits (λ m. 1 ≤ length (decimal m)) (λ m h. omega (arith, places-one m h)) (λ m h ih. omega (arith, places-more m h)) n
+pub places_some : (n : ℕ) → 1 ≤ length (decimal n)
+places_some n = by_digits (λ m. 1 ≤ length (decimal m)) (λ m h. omega (arith, places_one m h)) (λ m h ih. omega (arith, places_more m h)) n
 
 -- a number below 10 ^ k has at most k digits
-places-within : (k n : ℕ) → n < 10 ^ suc k → length (decimal n) ≤ suc k
-places-within zero n h = omega (arith, places-one n (rw (pow-suc 10 0) at h))
-places-within (suc k) n h = go (dec_lt n 10) (λ l. places-within k (n / 10) l)
+places_within : (k n : ℕ) → n < 10 ^ suc k → length (decimal n) ≤ suc k
+places_within zero n h = omega (arith, places_one n (rw (pow-suc 10 0) at h))
+places_within (suc k) n h = go (dec_lt n 10) (λ l. places_within k (n / 10) l)
   where
     go : Dec (n < 10) → (n / 10 < 10 ^ suc k → length (decimal (n / 10)) ≤ suc k) → length (decimal n) ≤ suc (suc k)
-    go (yes l) ih = omega (arith, places-one n l)
-    go (no l) ih = omega (arith, places-more n (omega arith), ih (omega (arith, h, pow-suc 10 (suc k))))
+    go (yes l) ih = omega (arith, places_one n l)
+    go (no l) ih = omega (arith, places_more n (omega arith), ih (omega (arith, h, pow-suc 10 (suc k))))
 
 -- "1 to 20 digits"
-pub places-few : (n : ℕ) → n ≤ 18446744073709551615 → length (decimal n) ≤ 20
-places-few n h = places-within 19 n (omega arith)
+pub places_few : (n : ℕ) → n ≤ 18446744073709551615 → length (decimal n) ≤ 20
+places_few n h = places_within 19 n (omega arith)
 
 -- ---- read back
 
-value-snoc : (l : List ℕ) (v b : ℕ) → value v (l ++ (b ∷ [])) ≡ value v l * 10 + (b - 48)
+value_snoc : (l : List ℕ) (v b : ℕ) → value v (l ++ (b ∷ [])) ≡ value v l * 10 + (b - 48)
 unfolding value
-value-snoc [] v b = refl
-value-snoc (a ∷ l) v b = value-snoc l (v * 10 + (a - 48)) b
+value_snoc [] v b = refl
+value_snoc (a ∷ l) v b = value_snoc l (v * 10 + (a - 48)) b
 
-digits-snoc : (l : List ℕ) (b : ℕ) → isDigit b ≡ true → digits (l ++ (b ∷ [])) ≡ digits l
+digits_snoc : (l : List ℕ) (b : ℕ) → is_digit b ≡ true → digits (l ++ (b ∷ [])) ≡ digits l
 unfolding digits
-digits-snoc [] b h = rw h
-digits-snoc (a ∷ l) b h = rw (digits-snoc l b h)
+digits_snoc [] b h = rw h
+digits_snoc (a ∷ l) b h = rw (digits_snoc l b h)
 
-digit-reads : (d : ℕ) → d < 10 → isDigit (digit d) ≡ true
-digit-reads d h = digit-is (digit d) (omega arith) (omega arith)
+digit_reads : (d : ℕ) → d < 10 → is_digit (digit d) ≡ true
+digit_reads d h = digit_is (digit d) (omega arith) (omega arith)
 
 all_digits : (n : ℕ) → digits (decimal n) ≡ true
 unfolding digits
 all_digits n =
     by_digits
     (λ m. digits (decimal m) ≡ true)
-    (λ m h. rw (decimal-one m h, digit-reads m h))
-    (λ m h ih. rw (decimal-more m h, digits-snoc (decimal (m / 10)) (digit (m % 10)) (digit-reads (m % 10) (omega arith))) ih)
+    (λ m h. rw (decimal_one m h, digit_reads m h))
+    (λ m h ih. rw (decimal_more m h, digits_snoc (decimal (m / 10)) (digit (m % 10)) (digit_reads (m % 10) (omega arith))) ih)
     n
 
-decimal-value : (n : ℕ) → value 0 (decimal n) ≡ n
+decimal_value : (n : ℕ) → value 0 (decimal n) ≡ n
 unfolding value
-decimal-value n =
+decimal_value n =
     by_digits
     (λ m. value 0 (decimal m) ≡ m)
-    (λ m h. rw (decimal-one m h) (omega arith))
-    (λ m h ih. rw (decimal-more m h, value-snoc (decimal (m / 10)) 0 (digit (m % 10)), ih) (omega arith))
+    (λ m h. rw (decimal_one m h) (omega arith))
+    (λ m h ih. rw (decimal_more m h, value_snoc (decimal (m / 10)) 0 (digit (m % 10)), ih) (omega arith))
     n
 
 -- what is written of a number of 64 bits is read as that number
-pub decimal-reads : (n : ℕ) → n ≤ 18446744073709551615 → number_of (decimal n) ≡ good n
-decimal-reads n h =
-    good-number (decimal n) (places-some n) (places-few n h) (all_digits n) (omega (arith, decimal-value n)) ∙ rw (decimal-value n)
+pub decimal_reads : (n : ℕ) → n ≤ 18446744073709551615 → number_of (decimal n) ≡ good n
+decimal_reads n h =
+    good_number (decimal n) (places_some n) (places_few n h) (all_digits n) (omega (arith, decimal_value n)) ∙ rw (decimal_value n)

@@ -13,18 +13,18 @@ use Rattle.lines.specs.declared.Put.TheVariants.{At, Full}
 use Rattle.lines.specs.declared.Laid.{Laid}
 use Rattle.lines.specs.declared.Laid.TheVariants.{Whole, Part}
 use Rattle.lines.specs.Put.{laid, Puts}
-use Rattle.lines.specs.Laid.{joined, fitting, fitted, onlyOf, Lays}
-use Rattle.lines.proofs.Laying.{laid_none, length-laid, laid-append}
-use Rattle.lines.proofs.Putting.{puts-at, puts-full}
+use Rattle.lines.specs.Laid.{joined, fitting, fitted, only_of, Lays}
+use Rattle.lines.proofs.Laying.{laid_none, length_laid, laid_append}
+use Rattle.lines.proofs.Putting.{puts_at, puts_full}
 
 -- ---- lines and their bytes
 
-pub joined-append : (ls ms : List (List ℕ)) → joined (ls ++ ms) ≡ joined ls ++ joined ms
-joined-append [] ms = refl
-joined-append (l ∷ ls) ms = ap (λ (k : List ℕ). l ++ k) (joined-append ls ms) ∙ sym (append_assoc l (joined ls) (joined ms))
+pub joined_append : (ls ms : List (List ℕ)) → joined (ls ++ ms) ≡ joined ls ++ joined ms
+joined_append [] ms = refl
+joined_append (l ∷ ls) ms = ap (λ (k : List ℕ). l ++ k) (joined_append ls ms) ∙ sym (append_assoc l (joined ls) (joined ms))
 
 joined_length : (ls ms : List (List ℕ)) → length (joined (ls ++ ms)) ≡ length (joined ls) + length (joined ms)
-joined_length ls ms = ap length (joined-append ls ms) ∙ length-append (joined ls) (joined ms)
+joined_length ls ms = ap length (joined_append ls ms) ∙ length-append (joined ls) (joined ms)
 
 -- ---- what fits
 
@@ -37,9 +37,9 @@ fit_all space (l ∷ ls) ms h =
     rw (le-leb (length l) space (omega arith), e, fit_all (space - length l) ls ms (omega arith))
 
 -- not all lines fit: what is behind them changes nothing
-fit-part : (space : ℕ) (ls ms : List (List ℕ)) → space < length (joined ls) → fitting space (ls ++ ms) ≡ fitting space ls
-fit-part space [] ms h = absurd (omega arith)
-fit-part space (l ∷ ls) ms h = go (leb (length l) space) refl (λ k. fit-part (space - length l) ls ms k)
+fit_part : (space : ℕ) (ls ms : List (List ℕ)) → space < length (joined ls) → fitting space (ls ++ ms) ≡ fitting space ls
+fit_part space [] ms h = absurd (omega arith)
+fit_part space (l ∷ ls) ms h = go (leb (length l) space) refl (λ k. fit_part (space - length l) ls ms k)
   where
     go : (t : Bool) → leb (length l) space ≡ t → (space - length l < length (joined ls) → fitting (space - length l) (ls ++ ms) ≡ fitting (space - length l) ls)
         → cond t (l ∷ fitting (space - length l) (ls ++ ms)) [] ≡ cond t (l ∷ fitting (space - length l) ls) []
@@ -48,9 +48,9 @@ fit-part space (l ∷ ls) ms h = go (leb (length l) space) refl (λ k. fit-part 
         let k = leb-true (length l) space e in
         rw (same (omega (arith, length-append l (joined ls))))
 
-fit-within : (space : ℕ) (ls : List (List ℕ)) → length (joined (fitting space ls)) ≤ space
-fit-within space [] = omega arith
-fit-within space (l ∷ ls) = go (leb (length l) space) refl (fit-within (space - length l) ls)
+fit_within : (space : ℕ) (ls : List (List ℕ)) → length (joined (fitting space ls)) ≤ space
+fit_within space [] = omega arith
+fit_within space (l ∷ ls) = go (leb (length l) space) refl (fit_within (space - length l) ls)
   where
     go : (t : Bool) → leb (length l) space ≡ t → length (joined (fitting (space - length l) ls)) ≤ space - length l → length (joined (cond t (l ∷ fitting (space - length l) ls) [])) ≤ space
     go false e few = omega arith
@@ -64,19 +64,19 @@ none [] h = refl
 none (x ∷ xs) h = absurd (omega arith)
 
 module _ (old : List ℕ) (at : ℕ) (ls : List (List ℕ)) where
-  fitted-past : length old ≤ at → fitted old at ls ≡ []
-  fitted-past h = none (fitted old at ls) (omega (arith, fit-within (length old - at) ls))
+  fitted_past : length old ≤ at → fitted old at ls ≡ []
+  fitted_past h = none (fitted old at ls) (omega (arith, fit_within (length old - at) ls))
 
-  fitted-all : at + length (joined ls) ≤ length old → fitted old at ls ≡ joined ls
-  fitted-all h = rw append-nil at (ap joined (fit_all (length old - at) ls [] (omega arith)))
+  fitted_all : at + length (joined ls) ≤ length old → fitted old at ls ≡ joined ls
+  fitted_all h = rw append-nil at (ap joined (fit_all (length old - at) ls [] (omega arith)))
 
   -- what is laid lies within the buffer
-  laid-length : length (laid old at (fitted old at ls)) ≡ length old
-  laid-length = go (dec_le at (length old))
+  laid_length : length (laid old at (fitted old at ls)) ≡ length old
+  laid_length = go (dec_le at (length old))
     where
       go : Dec (at ≤ length old) → length (laid old at (fitted old at ls)) ≡ length old
-      go (yes h) = length-laid old at (fitted old at ls) (omega (arith, fit-within (length old - at) ls))
-      go (no h) = rw (fitted-past (omega arith)) (ap length (laid_none old at))
+      go (yes h) = length_laid old at (fitted old at ls) (omega (arith, fit_within (length old - at) ls))
+      go (no h) = rw (fitted_past (omega arith)) (ap length (laid_none old at))
 
 -- ---- what an answer says
 
@@ -85,97 +85,97 @@ abbrev said : ℕ → ℕ → ℕ → Laid
 said stop size part = cond (leb stop size) (Whole stop) (Part part)
 
 module _ (stop size part : ℕ) where
-  said-whole : {p : ℕ} → Whole p ≡ said stop size part → (stop ≤ size) × (p ≡ stop)
-  said-whole {p} e = go (leb stop size) refl e
+  said_whole : {p : ℕ} → Whole p ≡ said stop size part → (stop ≤ size) × (p ≡ stop)
+  said_whole {p} e = go (leb stop size) refl e
     where
       go : (t : Bool) → leb stop size ≡ t → Whole p ≡ cond t (Whole stop) (Part part) → (stop ≤ size) × (p ≡ stop)
       go true e f = (leb-true stop size e, cc)
       go false e f = let z : ◌≡◌ {A = ℕ} 0 1 = cc in absurd (omega arith)
 
-  said-part : {p : ℕ} → Part p ≡ said stop size part → (size < stop) × (p ≡ part)
-  said-part {p} e = go (leb stop size) refl e
+  said_part : {p : ℕ} → Part p ≡ said stop size part → (size < stop) × (p ≡ part)
+  said_part {p} e = go (leb stop size) refl e
     where
       go : (t : Bool) → leb stop size ≡ t → Part p ≡ cond t (Whole stop) (Part part) → (size < stop) × (p ≡ part)
       go false e f = (leb-false stop size e, cc)
       go true e f = let z : ◌≡◌ {A = ℕ} 0 1 = cc in absurd (omega arith)
 
 module _ {old : List ℕ} {at : ℕ} {ls : List (List ℕ)} {new : List ℕ} where
-  pub lays-length : {r : Laid} → Lays old at ls r new → length new ≡ length old
-  lays-length w = ap length w.written ∙ laid-length old at ls
+  pub lays_length : {r : Laid} → Lays old at ls r new → length new ≡ length old
+  lays_length w = ap length w.written ∙ laid_length old at ls
 
   -- all lines stand
-  pub lays-whole : {p : ℕ} → Lays old at ls (Whole p) new → (at + length (joined ls) ≤ length old) × (p ≡ at + length (joined ls)) × (new ≡ laid old at (joined ls))
-  lays-whole w =
-      let a = said-whole (at + length (joined ls)) (length old) (at + length (fitted old at ls)) w.answer in
-      (a.0, a.1, w.written ∙ rw (fitted-all old at ls a.0))
+  pub lays_whole : {p : ℕ} → Lays old at ls (Whole p) new → (at + length (joined ls) ≤ length old) × (p ≡ at + length (joined ls)) × (new ≡ laid old at (joined ls))
+  lays_whole w =
+      let a = said_whole (at + length (joined ls)) (length old) (at + length (fitted old at ls)) w.answer in
+      (a.0, a.1, w.written ∙ rw (fitted_all old at ls a.0))
 
   -- where the next line goes lies within the buffer
-  pub lays-inside : {p : ℕ} → Lays old at ls (Whole p) new → p ≤ length new
-  lays-inside w = let a = lays-whole w in omega (arith, lays-length w)
+  pub lays_inside : {p : ℕ} → Lays old at ls (Whole p) new → p ≤ length new
+  lays_inside w = let a = lays_whole w in omega (arith, lays_length w)
 
 -- any two results are equal
-pub lays-alike : {old : List ℕ} {at : ℕ} {ls : List (List ℕ)} {r s : Laid} {new also : List ℕ} → Lays old at ls r new → Lays old at ls s also → (r ≡ s) × (new ≡ also)
-lays-alike v w = (v.answer ∙ sym w.answer, v.written ∙ sym w.written)
+pub lays_alike : {old : List ℕ} {at : ℕ} {ls : List (List ℕ)} {r s : Laid} {new also : List ℕ} → Lays old at ls r new → Lays old at ls s also → (r ≡ s) × (new ≡ also)
+lays_alike v w = (v.answer ∙ sym w.answer, v.written ∙ sym w.written)
 
 -- ---- lines behind lines
 
 -- no lines
-pub lays-none : (old : List ℕ) (at : ℕ) → at ≤ length old → Lays old at [] (Whole at) old
-lays-none old at h =
+pub lays_none : (old : List ℕ) (at : ℕ) → at ≤ length old → Lays old at [] (Whole at) old
+lays_none old at h =
     let e : at + 0 ≡ at = omega arith in
     record { answer = rw (e, le-leb at (length old) h); written = sym (laid_none old at) }
 
 -- nothing is written past the end
-pub lays-past : (old : List ℕ) (at : ℕ) (ls : List (List ℕ)) → length old < at → Lays old at ls (Part at) old
-lays-past old at ls h =
+pub lays_past : (old : List ℕ) (at : ℕ) (ls : List (List ℕ)) → length old < at → Lays old at ls (Part at) old
+lays_past old at ls h =
     let e : at + 0 ≡ at = omega arith in
-    let f = fitted-past old at ls (omega arith) in
+    let f = fitted_past old at ls (omega arith) in
     record { answer = rw (lt-leb (at + length (joined ls)) (length old) (omega arith), f, e); written = sym (rw f (laid_none old at)) }
 
 -- all of them stand, and further ones are laid behind them
-pub lays-append : {old m new : List ℕ} {at p : ℕ} {ls : List (List ℕ)} {r : Laid} (ms : List (List ℕ)) → Lays old at ls (Whole p) m → Lays m p ms r new → Lays old at (ls ++ ms) r new
-lays-append {old} {m} {new} {at} {p} {ls} {r} ms v w =
-    let a = lays-whole v in
-    let k : length m ≡ length old = lays-length v in
+pub lays_append : {old m new : List ℕ} {at p : ℕ} {ls : List (List ℕ)} {r : Laid} (ms : List (List ℕ)) → Lays old at ls (Whole p) m → Lays m p ms r new → Lays old at (ls ++ ms) r new
+lays_append {old} {m} {new} {at} {p} {ls} {r} ms v w =
+    let a = lays_whole v in
+    let k : length m ≡ length old = lays_length v in
     let b : length m - p ≡ length old - at - length (joined ls) = omega arith in
     let f : fitted old at (ls ++ ms) ≡ joined ls ++ fitted m p ms =
-    ap joined (fit_all (length old - at) ls ms (omega arith)) ∙ rw (← b) (joined-append ls (fitting (length m - p) ms)) in
+    ap joined (fit_all (length old - at) ls ms (omega arith)) ∙ rw (← b) (joined_append ls (fitting (length m - p) ms)) in
     let stop : p + length (joined ms) ≡ at + length (joined (ls ++ ms)) = omega (arith, joined_length ls ms) in
     let part : p + length (fitted m p ms) ≡ at + length (fitted old at (ls ++ ms)) = omega (arith, ap length f, length-append (joined ls) (fitted m p ms)) in
     record {
       answer = w.answer ∙ rw (stop, part, k);
-      written = w.written ∙ rw (f, laid-append old at (joined ls) a.0 (fitted m p ms), a.1, a.2);
+      written = w.written ∙ rw (f, laid_append old at (joined ls) a.0 (fitted m p ms), a.1, a.2);
     }
 
 -- a line did not fit: whatever is to follow, nothing more is written
-pub lays-part : {old new : List ℕ} {at p : ℕ} {ls : List (List ℕ)} (ms : List (List ℕ)) → Lays old at ls (Part p) new → Lays old at (ls ++ ms) (Part p) new
-lays-part {old} {new} {at} {p} {ls} ms v = go (dec_le at (length old))
+pub lays_part : {old new : List ℕ} {at p : ℕ} {ls : List (List ℕ)} (ms : List (List ℕ)) → Lays old at ls (Part p) new → Lays old at (ls ++ ms) (Part p) new
+lays_part {old} {new} {at} {p} {ls} ms v = go (dec_le at (length old))
   where
     go : Dec (at ≤ length old) → Lays old at (ls ++ ms) (Part p) new
     go (yes h) =
-        let a = said-part (at + length (joined ls)) (length old) (at + length (fitted old at ls)) v.answer in
-        let f = fit-part (length old - at) ls ms (omega arith) in
+        let a = said_part (at + length (joined ls)) (length old) (at + length (fitted old at ls)) v.answer in
+        let f = fit_part (length old - at) ls ms (omega arith) in
         record {
           answer = rw (lt-leb (at + length (joined (ls ++ ms))) (length old) (omega (arith, joined_length ls ms)), f) (ap (λ (n : ℕ). Part n) a.1);
           written = rw f v.written;
         }
     go (no h) =
-        let a = lays-alike v (lays-past old at ls (omega arith)) in
-        rw (a.0, a.1) (lays-past old at (ls ++ ms) (omega arith))
+        let a = lays_alike v (lays_past old at ls (omega arith)) in
+        rw (a.0, a.1) (lays_past old at (ls ++ ms) (omega arith))
 
 -- ---- one line
 
 module _ {old new : List ℕ} {at : ℕ} {l : List ℕ} where
-  pub lays-put : {p : ℕ} → Puts old at l (At p) new → Lays old at (l ∷ []) (Whole p) new
-  lays-put {p} v =
-      let a = puts-at v in
+  pub lays_put : {p : ℕ} → Puts old at l (At p) new → Lays old at (l ∷ []) (Whole p) new
+  lays_put {p} v =
+      let a = puts_at v in
       let e : at + length (joined (l ∷ [])) ≡ p = rw append-nil (sym a.1) in
-      let f = fitted-all old at (l ∷ []) (omega arith) ∙ append-nil l in
+      let f = fitted_all old at (l ∷ []) (omega arith) ∙ append-nil l in
       record { answer = rw (e, le-leb p (length old) (omega arith)); written = a.2 ∙ rw f }
 
-  pub lays-full : at ≤ length old → Puts old at l Full new → Lays old at (l ∷ []) (Part at) new
-  lays-full h v =
-      let a = puts-full v in
+  pub lays_full : at ≤ length old → Puts old at l Full new → Lays old at (l ∷ []) (Part at) new
+  lays_full h v =
+      let a = puts_full v in
       let e : at + 0 ≡ at = omega arith in
       let f : leb (length l) (length old - at) ≡ false = lt-leb (length l) (length old - at) (omega arith) in
       record {
@@ -184,14 +184,14 @@ module _ {old new : List ℕ} {at : ℕ} {l : List ℕ} where
       }
 
 -- the only line
-pub lays-only : {old new : List ℕ} {at : ℕ} {l : List ℕ} (p : Put) → at ≤ length old → Puts old at l p new → Lays old at (l ∷ []) (onlyOf p at) new
-lays-only (At p) h v = lays-put v
-lays-only Full h v = lays-full h v
+pub lays_only : {old new : List ℕ} {at : ℕ} {l : List ℕ} (p : Put) → at ≤ length old → Puts old at l p new → Lays old at (l ∷ []) (only_of p at) new
+lays_only (At p) h v = lays_put v
+lays_only Full h v = lays_full h v
 
 -- a line, and further ones are laid behind it
 pub lays_more : {old m new : List ℕ} {at p : ℕ} {l : List ℕ} {r : Laid} (ls : List (List ℕ)) → Puts old at l (At p) m → Lays m p ls r new → Lays old at (l ∷ ls) r new
-lays_more ls v w = lays-append ls (lays-put v) w
+lays_more ls v w = lays_append ls (lays_put v) w
 
 -- a line that did not fit: whatever is to follow, nothing is written
-pub lays-stop : {old new : List ℕ} {at : ℕ} {l : List ℕ} (ls : List (List ℕ)) → at ≤ length old → Puts old at l Full new → Lays old at (l ∷ ls) (Part at) new
-lays-stop ls h v = lays-part ls (lays-full h v)
+pub lays_stop : {old new : List ℕ} {at : ℕ} {l : List ℕ} (ls : List (List ℕ)) → at ≤ length old → Puts old at l Full new → Lays old at (l ∷ ls) (Part at) new
+lays_stop ls h v = lays_part ls (lays_full h v)

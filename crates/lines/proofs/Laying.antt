@@ -14,33 +14,33 @@ laid_none l at =
     rw (e, append-nil (take at l)) (take-append-drop at l)
 
 module _ (l : List ℕ) (at : ℕ) (xs : List ℕ) (fits : at + length xs ≤ length l) where
-  length-ahead : length (take at l ++ xs) ≡ at + length xs
-  length-ahead = length-append (take at l) xs ∙ ap (λ (k : ℕ). k + length xs) (length-take-le at l (omega arith))
+  length_ahead : length (take at l ++ xs) ≡ at + length xs
+  length_ahead = length-append (take at l) xs ∙ ap (λ (k : ℕ). k + length xs) (length-take-le at l (omega arith))
 
-  pub length-laid : length (laid l at xs) ≡ length l
+  pub length_laid : length (laid l at xs) ≡ length l
   unfolding laid
-  length-laid =
-      length-append (take at l ++ xs) (drop (at + length xs) l) ∙ omega (arith, length-ahead, length-drop (at + length xs) l)
+  length_laid =
+      length-append (take at l ++ xs) (drop (at + length xs) l) ∙ omega (arith, length_ahead, length-drop (at + length xs) l)
 
-  pub laid-take : take (at + length xs) (laid l at xs) ≡ take at l ++ xs
+  pub laid_take : take (at + length xs) (laid l at xs) ≡ take at l ++ xs
   unfolding laid
-  laid-take = take_at (take at l ++ xs) (drop (at + length xs) l) (at + length xs) length-ahead
+  laid_take = take_at (take at l ++ xs) (drop (at + length xs) l) (at + length xs) length_ahead
 
-  pub laid-drop : drop (at + length xs) (laid l at xs) ≡ drop (at + length xs) l
+  pub laid_drop : drop (at + length xs) (laid l at xs) ≡ drop (at + length xs) l
   unfolding laid
-  laid-drop = drop_at (take at l ++ xs) (drop (at + length xs) l) (at + length xs) length-ahead
+  laid_drop = drop_at (take at l ++ xs) (drop (at + length xs) l) (at + length xs) length_ahead
 
   -- bytes in two parts, the first and then the second
-  laid-onto : (ys m : List ℕ) → take (at + length xs) m ≡ take at l ++ xs → drop (at + length xs) m ≡ drop (at + length xs) l → laid l at (xs ++ ys) ≡ laid m (at + length xs) ys
+  laid_onto : (ys m : List ℕ) → take (at + length xs) m ≡ take at l ++ xs → drop (at + length xs) m ≡ drop (at + length xs) l → laid l at (xs ++ ys) ≡ laid m (at + length xs) ys
   unfolding laid
-  laid-onto ys m t d =
+  laid_onto ys m t d =
       let e : at + length (xs ++ ys) ≡ at + length xs + length ys = omega (arith, length-append xs ys) in
       let r : drop (at + length xs + length ys) m ≡ drop (at + length xs + length ys) l =
       sym (drop-drop (length ys) (at + length xs) m) ∙ rw d (drop-drop (length ys) (at + length xs) l) in
       rw (e, t, r, append_assoc (take at l) xs ys)
 
-  pub laid-append : (ys : List ℕ) → laid l at (xs ++ ys) ≡ laid (laid l at xs) (at + length xs) ys
-  laid-append ys = laid-onto ys (laid l at xs) laid-take laid-drop
+  pub laid_append : (ys : List ℕ) → laid l at (xs ++ ys) ≡ laid (laid l at xs) (at + length xs) ys
+  laid_append ys = laid_onto ys (laid l at xs) laid_take laid_drop
 
 -- one byte
 pub laid_one : (l : List ℕ) (at b : ℕ) → at < length l → laid l at (b ∷ []) ≡ set l at b
@@ -50,9 +50,9 @@ laid_one l at b h =
     rw (set_split l at b h, e, append_assoc (take at l) (b ∷ []) (drop (suc at) l))
 
 -- the last byte first, and then the bytes ahead of it
-pub laid-snoc : (l : List ℕ) (at : ℕ) (xs : List ℕ) (b : ℕ) → at + length xs < length l → laid l at (xs ++ (b ∷ [])) ≡ laid (set l (at + length xs) b) at xs
+pub laid_snoc : (l : List ℕ) (at : ℕ) (xs : List ℕ) (b : ℕ) → at + length xs < length l → laid l at (xs ++ (b ∷ [])) ≡ laid (set l (at + length xs) b) at xs
 unfolding laid
-laid-snoc l at xs b h =
+laid_snoc l at xs b h =
     let j : ℕ = at + length xs in
     let e : at + length (xs ++ (b ∷ [])) ≡ suc j = omega (arith, length-append xs (b ∷ [])) in
     let d : drop j (set l j b) ≡ b ∷ drop (suc j) l =
@@ -60,18 +60,18 @@ laid-snoc l at xs b h =
     rw (e, take-set-le at l j b (omega arith), d, ← append_assoc (take at l) xs (b ∷ []), append_assoc (take at l ++ xs) (b ∷ []) (drop (suc j) l))
 
 -- a copy of all of s
-pub laid-paste : (l : List ℕ) (at : ℕ) (s : List ℕ) → paste l at s (length s) ≡ laid l at s
+pub laid_paste : (l : List ℕ) (at : ℕ) (s : List ℕ) → paste l at s (length s) ≡ laid l at s
 unfolding laid
-laid-paste l at s = rw (take-length s)
+laid_paste l at s = rw (take-length s)
 
 -- ---- writing in parts
 
 module _ {l : List ℕ} {at : ℕ} {xs : List ℕ} {a : ℕ} {m : List ℕ} (w : Wrote l at xs a m) (fits : at + length xs ≤ length l) where
-  pub wrote-length : length m ≡ length l
-  wrote-length = ap length w.laid_in ∙ length-laid l at xs fits
+  pub wrote_length : length m ≡ length l
+  wrote_length = ap length w.laid_in ∙ length_laid l at xs fits
 
-  pub wrote-append : {ys : List ℕ} {b : ℕ} {n : List ℕ} → Wrote m a ys b n → Wrote l at (xs ++ ys) b n
-  wrote-append {ys} {b} {n} v = record {
+  pub wrote_append : {ys : List ℕ} {b : ℕ} {n : List ℕ} → Wrote m a ys b n → Wrote l at (xs ++ ys) b n
+  wrote_append {ys} {b} {n} v = record {
     stop = omega (arith, w.stop, v.stop, length-append xs ys);
-    laid_in = v.laid_in ∙ rw (w.laid_in, w.stop) (sym (laid-append l at xs fits ys));
+    laid_in = v.laid_in ∙ rw (w.laid_in, w.stop) (sym (laid_append l at xs fits ys));
   }

@@ -8,35 +8,35 @@ use lib.ListN.{length, take, drop, length-append}
 use Rattle.lines.specs.declared.Put.{Put}
 use Rattle.lines.specs.declared.Put.TheVariants.{At, Full}
 use Rattle.lines.specs.Put.{laid, Wrote, Puts}
-use Rattle.lines.proofs.Laying.{length-laid, laid-take, laid-drop, wrote-append}
+use Rattle.lines.proofs.Laying.{length_laid, laid_take, laid_drop, wrote_append}
 
 -- ---- a line of four parts
 
 module _ (xs ys zs ws : List ℕ) where
-  pub length-parts : length (xs ++ ys ++ zs ++ ws) ≡ length xs + length ys + length zs + length ws
-  length-parts = omega (arith, length-append xs ys, length-append (xs ++ ys) zs, length-append (xs ++ ys ++ zs) ws)
+  pub length_parts : length (xs ++ ys ++ zs ++ ws) ≡ length xs + length ys + length zs + length ws
+  length_parts = omega (arith, length-append xs ys, length-append (xs ++ ys) zs, length-append (xs ++ ys ++ zs) ws)
 
 module _ {old : List ℕ} {at : ℕ} {bytes : List ℕ} where
   pub puts_none : length old < at + length bytes → Puts old at bytes Full old
   puts_none h = record { fits = λ k. absurd (omega arith); full = λ k. (refl, refl) }
 
-  pub puts-all : {r : ℕ} {new : List ℕ} → at + length bytes ≤ length old → Wrote old at bytes r new → Puts old at bytes (At r) new
-  puts-all h w = record { fits = λ k. (ap (λ (n : ℕ). At n) w.stop, w.laid_in); full = λ k. absurd (omega arith) }
+  pub puts_all : {r : ℕ} {new : List ℕ} → at + length bytes ≤ length old → Wrote old at bytes r new → Puts old at bytes (At r) new
+  puts_all h w = record { fits = λ k. (ap (λ (n : ℕ). At n) w.stop, w.laid_in); full = λ k. absurd (omega arith) }
 
-pub puts-parts : {old m₁ m₂ m₃ new xs ys zs ws : List ℕ} {at a b c d : ℕ} → at + length xs + length ys + length zs + length ws ≤ length old →
+pub puts_parts : {old m₁ m₂ m₃ new xs ys zs ws : List ℕ} {at a b c d : ℕ} → at + length xs + length ys + length zs + length ws ≤ length old →
     Wrote old at xs a m₁ → Wrote m₁ a ys b m₂ → Wrote m₂ b zs c m₃ → Wrote m₃ c ws d new → Puts old at (xs ++ ys ++ zs ++ ws) (At d) new
-puts-parts {xs} {ys} {zs} {ws} h p q r s =
+puts_parts {xs} {ys} {zs} {ws} h p q r s =
     let two = length-append xs ys in
     let three = length-append (xs ++ ys) zs in
-    let pq = wrote-append p (omega arith) q in
-    let pqr = wrote-append pq (omega arith) r in
-    puts-all (omega (arith, length-parts xs ys zs ws)) (wrote-append pqr (omega arith) s)
+    let pq = wrote_append p (omega arith) q in
+    let pqr = wrote_append pq (omega arith) r in
+    puts_all (omega (arith, length_parts xs ys zs ws)) (wrote_append pqr (omega arith) s)
 
 -- ---- what an answer says
 
 module _ {old : List ℕ} {at : ℕ} {bytes : List ℕ} {new : List ℕ} where
-  pub puts-at : {r : ℕ} → Puts old at bytes (At r) new → (at + length bytes ≤ length old) × (r ≡ at + length bytes) × (new ≡ laid old at bytes)
-  puts-at {r} p = go (dec_lt (length old) (at + length bytes))
+  pub puts_at : {r : ℕ} → Puts old at bytes (At r) new → (at + length bytes ≤ length old) × (r ≡ at + length bytes) × (new ≡ laid old at bytes)
+  puts_at {r} p = go (dec_lt (length old) (at + length bytes))
     where
       go : Dec (length old < at + length bytes) → (at + length bytes ≤ length old) × (r ≡ at + length bytes) × (new ≡ laid old at bytes)
       go (yes h) = let e = (p.full h).0 in let z : ◌≡◌ {A = ℕ} 0 1 = cc in absurd (omega arith)
@@ -45,30 +45,30 @@ module _ {old : List ℕ} {at : ℕ} {bytes : List ℕ} {new : List ℕ} where
           let e = (p.fits k).0 in
           (k, cc, (p.fits k).1)
 
-  pub puts-full : Puts old at bytes Full new → (length old < at + length bytes) × (new ≡ old)
-  puts-full p = go (dec_lt (length old) (at + length bytes))
+  pub puts_full : Puts old at bytes Full new → (length old < at + length bytes) × (new ≡ old)
+  puts_full p = go (dec_lt (length old) (at + length bytes))
     where
       go : Dec (length old < at + length bytes) → (length old < at + length bytes) × (new ≡ old)
       go (yes h) = (h, (p.full h).1)
       go (no h) = let e = (p.fits (omega arith)).0 in let z : ◌≡◌ {A = ℕ} 0 1 = cc in absurd (omega arith)
 
   -- the buffer up to the place behind the bytes, and from there on
-  pub puts-ahead : {r : ℕ} → Puts old at bytes (At r) new → (take r new ≡ take at old ++ bytes) × (drop r new ≡ drop r old)
-  puts-ahead p =
-      let a = puts-at p in
-      rw (a.1, a.2) (laid-take old at bytes a.0, laid-drop old at bytes a.0)
+  pub puts_ahead : {r : ℕ} → Puts old at bytes (At r) new → (take r new ≡ take at old ++ bytes) × (drop r new ≡ drop r old)
+  puts_ahead p =
+      let a = puts_at p in
+      rw (a.1, a.2) (laid_take old at bytes a.0, laid_drop old at bytes a.0)
 
-  pub puts-length : (r : Put) → Puts old at bytes r new → length new ≡ length old
-  puts-length (At r) p = let a = puts-at p in ap length a.2 ∙ length-laid old at bytes a.0
-  puts-length Full p = ap length (puts-full p).1
+  pub puts_length : (r : Put) → Puts old at bytes r new → length new ≡ length old
+  puts_length (At r) p = let a = puts_at p in ap length a.2 ∙ length_laid old at bytes a.0
+  puts_length Full p = ap length (puts_full p).1
 
   -- what the next line asks
-  pub puts-inside : {r : ℕ} → Puts old at bytes (At r) new → r ≤ length new
-  puts-inside {r} p = let a = puts-at p in omega (arith, puts-length (At r) p)
+  pub puts_inside : {r : ℕ} → Puts old at bytes (At r) new → r ≤ length new
+  puts_inside {r} p = let a = puts_at p in omega (arith, puts_length (At r) p)
 
 -- any two results are equal
-pub puts-alike : {old : List ℕ} {at : ℕ} {bytes : List ℕ} {r s : Put} {new also : List ℕ} → Puts old at bytes r new → Puts old at bytes s also → (r ≡ s) × (new ≡ also)
-puts-alike {old} {at} {bytes} {r} {s} {new} {also} p q = go (dec_lt (length old) (at + length bytes))
+pub puts_alike : {old : List ℕ} {at : ℕ} {bytes : List ℕ} {r s : Put} {new also : List ℕ} → Puts old at bytes r new → Puts old at bytes s also → (r ≡ s) × (new ≡ also)
+puts_alike {old} {at} {bytes} {r} {s} {new} {also} p q = go (dec_lt (length old) (at + length bytes))
   where
     go : Dec (length old < at + length bytes) → (r ≡ s) × (new ≡ also)
     go (yes h) = ((p.full h).0 ∙ sym (q.full h).0, (p.full h).1 ∙ sym (q.full h).1)

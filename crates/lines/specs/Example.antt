@@ -1,15 +1,15 @@
 -- The document's example of a listing, byte by byte, the ends of the numbers, and lines that don't all fit.
 use Rattle.std.specs.Prelude.{ℕ, ◌≡◌, refl, List, [], ◌∷◌, ◌++◌}
-use Rattle.lines.specs.Lines.{spelled, decimal, lineB, lineR, lineX, lineX'}
+use Rattle.lines.specs.Lines.{spelled, decimal, line_b, line_r, line_x, line_x'}
 use Rattle.lines.specs.Laid.{fitting}
 
 -- "The whole listing, fields parted by tabs"
 abbrev pub listing : List ℕ
-listing = lineB (111 ∷ 110 ∷ 101 ∷ []) 25 35 2 ++ lineR 0 0 0 100 ++ lineR 0 2 30 40 ++ lineX 6 1
+listing = line_b (111 ∷ 110 ∷ 101 ∷ []) 25 35 2 ++ line_r 0 0 0 100 ++ line_r 0 2 30 40 ++ line_x 6 1
 
 -- "Stream: `two` 5-9, then `one` 10-12; base `two` 0-10: 8, row 1."
 abbrev pub refusal : List ℕ
-refusal = lineX' 8 0 0 1
+refusal = line_x' 8 0 0 1
 
 pub listed : listing ≡
     -- `B one 25 35 2`

@@ -17,9 +17,9 @@ fitting space [] = []
 fitting space (l ∷ ls) = cond (leb (length l) space) (l ∷ fitting (space - length l) ls) []
 
 -- the document's number, 0 where all lines stand
-abbrev pub laidNumber : Laid → ℕ
-laidNumber (Whole p) = 0
-laidNumber (Part p) = 14
+abbrev pub laid_number : Laid → ℕ
+laid_number (Whole p) = 0
+laid_number (Part p) = 14
 
 -- what of the lines a buffer holds from a place on; nothing where the place is past its end
 abbrev pub fitted : List ℕ → ℕ → List (List ℕ) → List ℕ
@@ -35,6 +35,6 @@ pub record Lays (old : List ℕ) (at : ℕ) (ls : List (List ℕ)) (r : Laid) (n
   pub written : new ≡ laid old at (fitted old at ls)
 
 -- of one line that was put at a place
-abbrev pub onlyOf : Put → ℕ → Laid
-onlyOf (At p) at = Whole p
-onlyOf Full at = Part at
+abbrev pub only_of : Put → ℕ → Laid
+only_of (At p) at = Whole p
+only_of Full at = Part at

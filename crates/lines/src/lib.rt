@@ -1,9 +1,9 @@
 // The lines of the listing, written to a lent buffer: a line is written whole, or nothing of it is.
 // The functions here are called by the proved listing alone.
 ghost use Rattle.std.specs.Prelude.{◌≡◌, [], ◌∷◌, ◌++◌, ◌+◌, ◌≤◌, length};
-ghost use Rattle.lines.specs.Lines.{decimal, numbered, lineB, lineR, lineX, lineX', lineF};
+ghost use Rattle.lines.specs.Lines.{decimal, numbered, line_b, line_r, line_x, line_x', line_f};
 ghost use Rattle.lines.specs.Put.{Wrote, Puts};
-ghost use Rattle.lines.specs.Laid.{onlyOf};
+ghost use Rattle.lines.specs.Laid.{only_of};
 
 // Where the next line starts, or that the line did not fit.
 #[derive(Drop)]
@@ -122,7 +122,7 @@ fn put_line(out: &mut [u8], at: usize, head: &[u8], name: &[u8], numbers: &[u64]
 // The line of an accepted base: its chromosome's name, its start and stop, how many records it has.
 pub fn put_b(out: &mut [u8], at: usize, name: &[u8], start: u64, stop: u64, count: u64) -> Put
     requires { at ≤ length out.old }
-    ensures { Puts out.old at (lineB name.now start stop count) result out.new }
+    ensures { Puts out.old at (line_b name.now start stop count) result out.new }
 {
     let numbers = [start, stop, count];
     put_line(out, at, b"B\t", name, &numbers)
@@ -131,7 +131,7 @@ pub fn put_b(out: &mut [u8], at: usize, name: &[u8], start: u64, stop: u64, coun
 // The line of a base's record: its stream and row, its start and stop.
 pub fn put_r(out: &mut [u8], at: usize, stream: u64, row: u64, start: u64, stop: u64) -> Put
     requires { at ≤ length out.old }
-    ensures { Puts out.old at (lineR stream row start stop) result out.new }
+    ensures { Puts out.old at (line_r stream row start stop) result out.new }
 {
     let numbers = [stream, row, start, stop];
     put_line(out, at, b"R", b"", &numbers)
@@ -140,7 +140,7 @@ pub fn put_r(out: &mut [u8], at: usize, stream: u64, row: u64, start: u64, stop:
 // The line of a refusal: its number, and the base's row.
 pub fn put_x(out: &mut [u8], at: usize, number: u64, row: u64) -> Put
     requires { at ≤ length out.old }
-    ensures { Puts out.old at (lineX number row) result out.new }
+    ensures { Puts out.old at (line_x number row) result out.new }
 {
     let numbers = [number, row];
     put_line(out, at, b"X", b"", &numbers)
@@ -149,7 +149,7 @@ pub fn put_x(out: &mut [u8], at: usize, number: u64, row: u64) -> Put
 // The line of a refusal that a stream's record gives: its number, the base's row, the record's stream and row.
 pub fn put_x_row(out: &mut [u8], at: usize, number: u64, base: u64, stream: u64, row: u64) -> Put
     requires { at ≤ length out.old }
-    ensures { Puts out.old at (lineX' number base stream row) result out.new }
+    ensures { Puts out.old at (line_x' number base stream row) result out.new }
 {
     let numbers = [number, base, stream, row];
     put_line(out, at, b"X", b"", &numbers)
@@ -158,7 +158,7 @@ pub fn put_x_row(out: &mut [u8], at: usize, number: u64, base: u64, stream: u64,
 // The line of a fault before the run: its number, the text, the rows ahead of it there.
 pub fn put_fault(out: &mut [u8], at: usize, number: u64, text: u64, ahead: u64) -> Put
     requires { at ≤ length out.old }
-    ensures { Puts out.old at (lineF number text ahead) result out.new }
+    ensures { Puts out.old at (line_f number text ahead) result out.new }
 {
     let numbers = [number, text, ahead];
     put_line(out, at, b"X", b"", &numbers)
@@ -166,7 +166,7 @@ pub fn put_fault(out: &mut [u8], at: usize, number: u64, text: u64, ahead: u64) 
 
 // What became of lines, where there is only one, put at a place.
 pub fn only(put: Put, at: usize) -> Laid
-    ensures { result ≡ onlyOf put at }
+    ensures { result ≡ only_of put at }
 {
     match put {
         Put::At(p) => Laid::Whole(p),

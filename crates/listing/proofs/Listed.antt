@@ -12,48 +12,48 @@ use Rattle.rules.specs.Job.{replies, answers}
 use Rattle.fields.specs.Names.{names}
 use Rattle.heads.specs.View.{Cols}
 use Rattle.queue.specs.Ring.{Cells}
-use Rattle.admit.specs.Gates.{lengthsOf}
+use Rattle.admit.specs.Gates.{lengths_of}
 use Rattle.lines.specs.declared.Laid.{Laid}
 use Rattle.lines.specs.Laid.{Lays}
 use Rattle.runs.specs.declared.Run.{Run}
 use Rattle.runs.specs.View.{run_of}
 use Rattle.runs.specs.Start.{start_of}
-use Rattle.inputs.specs.Texts.{Texts, Fault, room, names_of, basesOf, job_of}
-use Rattle.inputs.specs.Parted.{textsOf}
-use Rattle.inputs.specs.Read.{baseIn}
+use Rattle.inputs.specs.Texts.{Texts, Fault, room, names_of, bases_of, job_of}
+use Rattle.inputs.specs.Parted.{texts_of}
+use Rattle.inputs.specs.Read.{base_in}
 use Rattle.inputs.specs.declared.Read.{Read}
 use Rattle.walk.specs.Run.{Comes, Fine, Slots, Begins, plan_of}
 use Rattle.walk.proofs.Beginning.{begins}
-use Rattle.walk.proofs.FineLaws.{list-is}
-use Rattle.listing.specs.Listing.{runLines, unlessFault, listing}
+use Rattle.walk.proofs.FineLaws.{list_is}
+use Rattle.listing.specs.Listing.{run_lines, unless_fault, listing}
 use Rattle.listing.specs.Run.{lines_from}
 
-module _ (bytes ends : List ℕ) {from to len : List ℕ} {b s : Cols} {r : Read} (f : Fine (textsOf bytes ends) r from to len b s) where
+module _ (bytes ends : List ℕ) {from to len : List ℕ} {b s : Cols} {r : Read} (f : Fine (texts_of bytes ends) r from to len b s) where
   abbrev list : List ℕ
   list = take (get_or ends 0 0) bytes
 
   abbrev t : Texts
-  t = textsOf bytes ends
+  t = texts_of bytes ends
 
-  run-begins : Begins t r.names len s (start_of (plan_of r list from to s)).run
-  run-begins = begins (list-is bytes ends f) f
+  run_begins : Begins t r.names len s (start_of (plan_of r list from to s)).run
+  run_begins = begins (list_is bytes ends f) f
 
   module _ {run : Run} (is : run ≡ (start_of (plan_of r list from to s)).run) where
-    pub run-comes : (c : Cells) → Slots c → Comes s (take r.names len) run c
-    run-comes c z = subst (λ (u : Run). Comes s (take r.names len) u c) (sym is) (run-begins.comes c z)
+    pub run_comes : (c : Cells) → Slots c → Comes s (take r.names len) run c
+    run_comes c z = subst (λ (u : Run). Comes s (take r.names len) u c) (sym is) (run_begins.comes c z)
 
     -- the lines of the bases are those of the listing
-    pub run-lines : (c : Cells) → lines_from (names list (take r.names from) (take r.names to)) (take r.names len) b s r.bases 0 run c ≡ listing t
+    pub run_lines_lem : (c : Cells) → lines_from (names list (take r.names from) (take r.names to)) (take r.names len) b s r.bases 0 run c ≡ listing t
     unfolding listing
-    run-lines c =
-        let bases : build (baseIn b) r.bases 0 ≡ basesOf t = f.columns.bases in
-        let ns : names list (take r.names from) (take r.names to) ≡ names_of t = ap (λ (l : List ℕ). names l (take r.names from) (take r.names to)) (sym (list-is bytes ends f)) ∙ f.columns.names.named in
+    run_lines_lem c =
+        let bases : build (base_in b) r.bases 0 ≡ bases_of t = f.columns.bases in
+        let ns : names list (take r.names from) (take r.names to) ≡ names_of t = ap (λ (l : List ℕ). names l (take r.names from) (take r.names to)) (sym (list_is bytes ends f)) ∙ f.columns.names.named in
         ap (λ (u : Run). lines_from (names list (take r.names from) (take r.names to)) (take r.names len) b s r.bases 0 u c) is
-        ∙ ap (λ (x : rules.Run). runLines (names list (take r.names from) (take r.names to)) 0 (build (baseIn b) r.bases 0) (replies (lengthsOf (take r.names len)) room x (build (baseIn b) r.bases 0))) (run-begins.fresh-run c)
-        ∙ ap (λ (bs : List Base). runLines (names list (take r.names from) (take r.names to)) 0 bs (replies (lengthsOf (take r.names len)) room (fresh (job_of t).streams) bs)) bases
-        ∙ ap (λ (l : List ℕ). runLines (names list (take r.names from) (take r.names to)) 0 (basesOf t) (replies (lengthsOf l) room (fresh (job_of t).streams) (basesOf t))) f.columns.names.lengths
-        ∙ ap (λ (k : List (List ℕ)). runLines k 0 (basesOf t) (answers (job_of t) (basesOf t))) ns
-        ∙ sym (ap (λ (o : Option Fault). unlessFault o (runLines (names_of t) 0 (basesOf t) (answers (job_of t) (basesOf t)))) f.fine)
+        ∙ ap (λ (x : rules.Run). run_lines (names list (take r.names from) (take r.names to)) 0 (build (base_in b) r.bases 0) (replies (lengths_of (take r.names len)) room x (build (base_in b) r.bases 0))) (run_begins.fresh_run_lem c)
+        ∙ ap (λ (bs : List Base). run_lines (names list (take r.names from) (take r.names to)) 0 bs (replies (lengths_of (take r.names len)) room (fresh (job_of t).streams) bs)) bases
+        ∙ ap (λ (l : List ℕ). run_lines (names list (take r.names from) (take r.names to)) 0 (bases_of t) (replies (lengths_of l) room (fresh (job_of t).streams) (bases_of t))) f.columns.names.lengths
+        ∙ ap (λ (k : List (List ℕ)). run_lines k 0 (bases_of t) (answers (job_of t) (bases_of t))) ns
+        ∙ sym (ap (λ (o : Option Fault). unless_fault o (run_lines (names_of t) 0 (bases_of t) (answers (job_of t) (bases_of t)))) f.fine)
 
-    pub run-listed : (c : Cells) {old new : List ℕ} {x : Laid} → Lays old 0 (lines_from (names list (take r.names from) (take r.names to)) (take r.names len) b s r.bases 0 run c) x new → Lays old 0 (listing t) x new
-    run-listed c {old} {new} {x} h = subst (λ (ls : List (List ℕ)). Lays old 0 ls x new) (run-lines c) h
+    pub run_listed : (c : Cells) {old new : List ℕ} {x : Laid} → Lays old 0 (lines_from (names list (take r.names from) (take r.names to)) (take r.names len) b s r.bases 0 run c) x new → Lays old 0 (listing t) x new
+    run_listed c {old} {new} {x} h = subst (λ (ls : List (List ℕ)). Lays old 0 ls x new) (run_lines_lem c) h

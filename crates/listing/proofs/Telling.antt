@@ -7,7 +7,7 @@ use native.Mathlib.Omega.{arith}
 use lib.ListN.{length, get_or}
 use Rattle.basics.specs.Lists.{All, nil, cons}
 use Rattle.basics.specs.Build.{build}
-use Rattle.basics.proofs.BuildLaws.{build-front, build-none}
+use Rattle.basics.proofs.BuildLaws.{build_front, build_none}
 use Rattle.rules.specs.declared.Base.{Base}
 use Rattle.rules.specs.declared.Answer.{Answer}
 use Rattle.rules.specs.declared.Answer.TheVariants as answer
@@ -17,29 +17,29 @@ use Rattle.rules.specs.Call as rules
 use Rattle.rules.specs.Job.{lending, replies}
 use Rattle.heads.specs.View.{Cols}
 use Rattle.queue.specs.Ring.{Cells}
-use Rattle.admit.specs.Gates.{lengthsOf}
+use Rattle.admit.specs.Gates.{lengths_of}
 use Rattle.lines.specs.declared.Laid.{Laid}
 use Rattle.lines.specs.declared.Laid.TheVariants.{Whole, Part}
 use Rattle.lines.specs.Laid.{Lays}
-use Rattle.lines.specs.Lines.{lineB}
-use Rattle.lines.proofs.LaidLaws.{lays-none, lays-append, lays-part}
+use Rattle.lines.specs.Lines.{line_b}
+use Rattle.lines.proofs.LaidLaws.{lays_none, lays_append, lays_part}
 use Rattle.runs.specs.declared.Run.{Run}
 use Rattle.runs.specs.declared.Given.{Given}
 use Rattle.runs.specs.View.{run_of}
 use Rattle.pulls.specs.Pulls.{Lent, lent}
 use Rattle.step.specs.Give.{Gives}
-use Rattle.runs.specs.Comes.{rightOf, given_of}
+use Rattle.runs.specs.Comes.{right_of, given_of}
 use Rattle.replies.specs.declared.Listed.{Listed}
 use Rattle.replies.specs.Lines.{lines_of}
 use Rattle.replies.specs.Lines as replies
 use Rattle.replies.specs.List.{Lists}
-use Rattle.demands.proofs.KeptLaws.{Hits, give-hits, give_holds}
-use Rattle.demands.proofs.RunAnswers.{right-given}
+use Rattle.demands.proofs.KeptLaws.{Hits, give_hits, give_holds}
+use Rattle.demands.proofs.RunAnswers.{right_given}
 use Rattle.demands.proofs.ComesBack.{Returns, returns}
 use Rattle.inputs.specs.Texts.{room}
-use Rattle.inputs.specs.Read.{baseIn}
+use Rattle.inputs.specs.Read.{base_in}
 use Rattle.walk.specs.Run.{Own, Comes, Bases}
-use Rattle.listing.specs.Listing.{recordLine, replyLines, runLines}
+use Rattle.listing.specs.Listing.{record_line, reply_lines, run_lines}
 use Rattle.listing.specs.Run.{lines_from, step_of}
 use Rattle.listing.specs.declared.Step.{Step}
 use Rattle.listing.specs.declared.Step.TheVariants.{On, Done}
@@ -47,29 +47,29 @@ use Rattle.listing.specs.declared.Step.TheVariants.{On, Done}
 -- ---- the lines of one base
 
 -- a record's line, read from the columns, is the record's own
-own-lines : (s : Cols) (from : List ℕ) {hits : List Record} → All (Own s from) hits → map (replies.recordLine s from) hits ≡ map recordLine hits
-own-lines s from nil = refl
-own-lines s from (cons {x = a} {l = l} e more) = rw (e, own-lines s from more)
+own_lines : (s : Cols) (from : List ℕ) {hits : List Record} → All (Own s from) hits → map (replies.record_line s from) hits ≡ map record_line hits
+own_lines s from nil = refl
+own_lines s from (cons {x = a} {l = l} e more) = rw (e, own_lines s from more)
 
 -- "after an ended run the listing stops": what follows a reply
-abbrev moreOf : Reply → List (List ℕ) → List (List ℕ)
-moreOf (found hits o) more = more
-moreOf (refused x) more = more
-moreOf (ended e) more = []
+abbrev more_of : Reply → List (List ℕ) → List (List ℕ)
+more_of (found hits o) more = more
+more_of (refused x) more = more
+more_of (ended e) more = []
 
-reply-lines : (s : Cols) (from : List ℕ) (ns : List (List ℕ)) (i : ℕ) (b : Base) (t : Reply) (more : List (List ℕ)) → Hits (Own s from) t →
-    replyLines ns i b t more ≡ lines_of s from (get_or ns b.chrom.0 []) i b t ++ moreOf t more
-reply-lines s from ns i b (found hits o) more h = ap (λ (l : List (List ℕ)). lineB (get_or ns b.chrom.0 []) b.start b.stop (length hits) ∷ l ++ more) (sym (own-lines s from h))
-reply-lines s from ns i b (refused x) more h = refl
-reply-lines s from ns i b (ended e) more h = refl
+reply_lines_lem : (s : Cols) (from : List ℕ) (ns : List (List ℕ)) (i : ℕ) (b : Base) (t : Reply) (more : List (List ℕ)) → Hits (Own s from) t →
+    reply_lines ns i b t more ≡ lines_of s from (get_or ns b.chrom.0 []) i b t ++ more_of t more
+reply_lines_lem s from ns i b (found hits o) more h = ap (λ (l : List (List ℕ)). line_b (get_or ns b.chrom.0 []) b.start b.stop (length hits) ∷ l ++ more) (sym (own_lines s from h))
+reply_lines_lem s from ns i b (refused x) more h = refl
+reply_lines_lem s from ns i b (ended e) more h = refl
 
 -- ---- the run
 
 -- a call of a run that comes back leaves one that does
-comes-next : (s : Cols) (lengths : List ℕ) (r : Run) (b : Base) (l : Lent) (g : Given) (l' : Lent) → Gives s lengths r b l g l' → Comes s lengths r l.cells → Comes s lengths g.run l'.cells
-comes-next s lengths r b l g l' gives c =
+comes_next : (s : Cols) (lengths : List ℕ) (r : Run) (b : Base) (l : Lent) (g : Given) (l' : Lent) → Gives s lengths r b l g l' → Comes s lengths r l.cells → Comes s lengths g.run l'.cells
+comes_next s lengths r b l g l' gives c =
     let back : Returns s lengths r g.run l'.cells = returns s lengths r b l g l' gives c.blameless c.whole in
-    let held = give_holds (Own s r.from) (lengthsOf lengths) r.settings.room (record { right = rightOf s lengths r l; rows = length l.answers }) (run_of s l.cells r) b (c.left, c.queue) in
+    let held = give_holds (Own s r.from) (lengths_of lengths) r.settings.room (record { right = right_of s lengths r l; rows = length l.answers }) (run_of s l.cells r) b (c.left, c.queue) in
     record {
       blameless = back.blameless;
       whole = back.whole;
@@ -81,8 +81,8 @@ comes-next s lengths r b l g l' gives c =
     }
 
 -- fewer bases stand in the columns, too
-pub bases-fewer : {list from to : List ℕ} {b : Cols} {n i : ℕ} → Bases list from to b n → i < n → Bases list from to b (i + 1)
-bases-fewer w h = record { inside = w.inside; chrom = omega (arith, w.chrom); start = omega (arith, w.start); stop = omega (arith, w.stop) }
+pub bases_fewer : {list from to : List ℕ} {b : Cols} {n i : ℕ} → Bases list from to b n → i < n → Bases list from to b (i + 1)
+bases_fewer w h = record { inside = w.inside; chrom = omega (arith, w.chrom); start = omega (arith, w.start); stop = omega (arith, w.stop) }
 
 -- ---- the loop
 
@@ -95,109 +95,109 @@ pub record Telling (ns : List (List ℕ)) (lengths : List ℕ) (b s : Cols) (n :
   pub rest : sofar ++ lines_from ns lengths b s (n - i) i r l.cells ≡ whole
   pub laid : Lays old 0 sofar (Whole at) out
 
-pub telling-start : (ns : List (List ℕ)) (lengths : List ℕ) (b s : Cols) (n : ℕ) (r : Run) (l : Lent) (out : List ℕ) → Comes s lengths r l.cells → length l.answers ≡ room →
+pub telling_start : (ns : List (List ℕ)) (lengths : List ℕ) (b s : Cols) (n : ℕ) (r : Run) (l : Lent) (out : List ℕ) → Comes s lengths r l.cells → length l.answers ≡ room →
     Telling ns lengths b s n (lines_from ns lengths b s n 0 r l.cells) out 0 0 r l out
-telling-start ns lengths b s n r l out c enough = record {
+telling_start ns lengths b s n r l out c enough = record {
   inside = omega arith;
   comes = c;
   answers = enough;
   sofar = [];
   rest = ap (λ (m : ℕ). lines_from ns lengths b s m 0 r l.cells) (let e : n - 0 ≡ n = omega arith in e);
-  laid = lays-none out 0 (omega arith);
+  laid = lays_none out 0 (omega arith);
 }
 
 module _ {ns : List (List ℕ)} {lengths : List ℕ} {b s : Cols} {n : ℕ} {whole : List (List ℕ)} {old : List ℕ} {i at : ℕ} {r : Run} {l : Lent} {out : List ℕ} (w : Telling ns lengths b s n whole old i at r l out) where
   -- no base is left
-  pub telling-end : n ≤ i → Lays old 0 whole (Whole at) out
+  pub telling_end : n ≤ i → Lays old 0 whole (Whole at) out
   unfolding replies
-  telling-end over =
-      let none : lines_from ns lengths b s (n - i) i r l.cells ≡ [] = ap (λ (bs : List Base). runLines ns i bs (replies (lengthsOf lengths) room (run_of s l.cells r) bs)) (build-none (baseIn b) n i over) in
+  telling_end over =
+      let none : lines_from ns lengths b s (n - i) i r l.cells ≡ [] = ap (λ (bs : List Base). run_lines ns i bs (replies (lengths_of lengths) room (run_of s l.cells r) bs)) (build_none (base_in b) n i over) in
       subst (λ (ls : List (List ℕ)). Lays old 0 ls (Whole at) out) (sym (append-nil w.sofar) ∙ ap (λ (ls : List (List ℕ)). w.sofar ++ ls) (sym none) ∙ w.rest) w.laid
 
   -- base i is given, and its lines are written
-  module _ (below : i < n) {x : Listed} {l' : Lent} {out' : List ℕ} (h : Lists s lengths r (baseIn b i) i (get_or ns (get_or b.chrom i 0) []) l out at x l' out') where
+  module _ (below : i < n) {x : Listed} {l' : Lent} {out' : List ℕ} (h : Lists s lengths r (base_in b i) i (get_or ns (get_or b.chrom i 0) []) l out at x l' out') where
     abbrev reply : Reply
-    reply = (given_of s lengths r (baseIn b i) l).reply
+    reply = (given_of s lengths r (base_in b i) l).reply
 
     abbrev own : List (List ℕ)
-    own = lines_of s r.from (get_or ns (get_or b.chrom i 0) []) i (baseIn b i) reply
+    own = lines_of s r.from (get_or ns (get_or b.chrom i 0) []) i (base_in b i) reply
 
     abbrev later : List (List ℕ)
     later = lines_from ns lengths b s (n - (i + 1)) (i + 1) x.run l'.cells
 
-    right : rightOf s lengths r l ≡ true
+    right : right_of s lengths r l ≡ true
     right = w.comes.blameless l.answers (omega (arith, w.comes.room, w.answers))
 
-    given_is : given_of s lengths r (baseIn b i) l ≡ give (lengthsOf lengths) room (lending room) (run_of s l.cells r) (baseIn b i)
-    given_is = right-given s lengths r (baseIn b i) l right ∙ ap (λ (q : ℕ). give (lengthsOf lengths) q (lending q) (run_of s l.cells r) (baseIn b i)) w.comes.room
+    given_is : given_of s lengths r (base_in b i) l ≡ give (lengths_of lengths) room (lending room) (run_of s l.cells r) (base_in b i)
+    given_is = right_given s lengths r (base_in b i) l right ∙ ap (λ (q : ℕ). give (lengths_of lengths) q (lending q) (run_of s l.cells r) (base_in b i)) w.comes.room
 
     hits : Hits (Own s r.from) reply
-    hits = give-hits (Own s r.from) (lengthsOf lengths) r.settings.room (record { right = rightOf s lengths r l; rows = length l.answers }) (run_of s l.cells r) (baseIn b i) (w.comes.left, w.comes.queue)
+    hits = give_hits (Own s r.from) (lengths_of lengths) r.settings.room (record { right = right_of s lengths r l; rows = length l.answers }) (run_of s l.cells r) (base_in b i) (w.comes.left, w.comes.queue)
 
     -- the lines from base i on: its own, and what follows
-    lines_next : lines_from ns lengths b s (n - i) i r l.cells ≡ replyLines ns i (baseIn b i) reply later
+    lines_next : lines_from ns lengths b s (n - i) i r l.cells ≡ reply_lines ns i (base_in b i) reply later
     unfolding replies
     lines_next =
         let next : rules.Run = run_of s l'.cells x.run in
-        let run_is : (give (lengthsOf lengths) room (lending room) (run_of s l.cells r) (baseIn b i)).run ≡ run_of s l'.cells x.run =
+        let run_is : (give (lengths_of lengths) room (lending room) (run_of s l.cells r) (base_in b i)).run ≡ run_of s l'.cells x.run =
         ap (λ (g : rules.Given). g.run) (sym given_is) ∙ sym h.gives.settles.run in
-        let reply-is : (give (lengthsOf lengths) room (lending room) (run_of s l.cells r) (baseIn b i)).reply ≡ reply = ap (λ (g : rules.Given). g.reply) (sym given_is) in
-        ap (λ (bs : List Base). runLines ns i bs (replies (lengthsOf lengths) room (run_of s l.cells r) bs)) (build-front (baseIn b) n i below)
-        ∙ ap (λ (t : Reply). replyLines ns i (baseIn b i) t (runLines ns (suc i) (build (baseIn b) (n - (i + 1)) (i + 1)) (replies (lengthsOf lengths) room (give (lengthsOf lengths) room (lending room) (run_of s l.cells r) (baseIn b i)).run (build (baseIn b) (n - (i + 1)) (i + 1))))) reply-is
-        ∙ ap (λ (u : rules.Run). replyLines ns i (baseIn b i) reply (runLines ns (suc i) (build (baseIn b) (n - (i + 1)) (i + 1)) (replies (lengthsOf lengths) room u (build (baseIn b) (n - (i + 1)) (i + 1))))) run_is
-        ∙ ap (λ (k : ℕ). replyLines ns i (baseIn b i) reply (runLines ns k (build (baseIn b) (n - (i + 1)) (i + 1)) (replies (lengthsOf lengths) room (run_of s l'.cells x.run) (build (baseIn b) (n - (i + 1)) (i + 1))))) (let e : suc i ≡ i + 1 = omega arith in e)
+        let reply-is : (give (lengths_of lengths) room (lending room) (run_of s l.cells r) (base_in b i)).reply ≡ reply = ap (λ (g : rules.Given). g.reply) (sym given_is) in
+        ap (λ (bs : List Base). run_lines ns i bs (replies (lengths_of lengths) room (run_of s l.cells r) bs)) (build_front (base_in b) n i below)
+        ∙ ap (λ (t : Reply). reply_lines ns i (base_in b i) t (run_lines ns (suc i) (build (base_in b) (n - (i + 1)) (i + 1)) (replies (lengths_of lengths) room (give (lengths_of lengths) room (lending room) (run_of s l.cells r) (base_in b i)).run (build (base_in b) (n - (i + 1)) (i + 1))))) reply-is
+        ∙ ap (λ (u : rules.Run). reply_lines ns i (base_in b i) reply (run_lines ns (suc i) (build (base_in b) (n - (i + 1)) (i + 1)) (replies (lengths_of lengths) room u (build (base_in b) (n - (i + 1)) (i + 1))))) run_is
+        ∙ ap (λ (k : ℕ). reply_lines ns i (base_in b i) reply (run_lines ns k (build (base_in b) (n - (i + 1)) (i + 1)) (replies (lengths_of lengths) room (run_of s l'.cells x.run) (build (base_in b) (n - (i + 1)) (i + 1))))) (let e : suc i ≡ i + 1 = omega arith in e)
 
     -- all lines: those ahead, the base's own, and what follows
-    whole_is : (w.sofar ++ own) ++ moreOf reply later ≡ whole
+    whole_is : (w.sofar ++ own) ++ more_of reply later ≡ whole
     whole_is =
-        append_assoc w.sofar own (moreOf reply later)
-        ∙ ap (λ (ls : List (List ℕ)). w.sofar ++ ls) (sym (lines_next ∙ reply-lines s r.from ns i (baseIn b i) reply later hits))
+        append_assoc w.sofar own (more_of reply later)
+        ∙ ap (λ (ls : List (List ℕ)). w.sofar ++ ls) (sym (lines_next ∙ reply_lines_lem s r.from ns i (base_in b i) reply later hits))
         ∙ w.rest
 
     laid_next : Lays old 0 (w.sofar ++ own) x.lines out'
-    laid_next = lays-append own w.laid h.lays
+    laid_next = lays_append own w.laid h.lays
 
-    answer-is : x.answer ≡ answer_of reply
-    answer-is = h.gives.settles.answer
+    answer_is : x.answer ≡ answer_of reply
+    answer_is = h.gives.settles.answer
 
     -- the listing stops: a line doesn't fit, or the run has ended
-    pub telling-done : step_of x.answer x.lines ≡ Done → Lays old 0 whole x.lines out'
-    telling-done e = go x.lines laid_next (ap (λ (a : Answer). step_of a x.lines) (sym answer-is) ∙ e)
+    pub telling_done : step_of x.answer x.lines ≡ Done → Lays old 0 whole x.lines out'
+    telling_done e = go x.lines laid_next (ap (λ (a : Answer). step_of a x.lines) (sym answer_is) ∙ e)
       where
-        by-reply : (t : Reply) (p : ℕ) (ls : List (List ℕ)) → step_of (answer_of t) (Whole p) ≡ Done → moreOf t ls ≡ []
-        by-reply (found hs o) p ls k = let z : ◌≡◌ {A = ℕ} 0 1 = cc in absurd (omega arith)
-        by-reply (refused y) p ls k = let z : ◌≡◌ {A = ℕ} 0 1 = cc in absurd (omega arith)
-        by-reply (ended y) p ls k = refl
+        by_reply : (t : Reply) (p : ℕ) (ls : List (List ℕ)) → step_of (answer_of t) (Whole p) ≡ Done → more_of t ls ≡ []
+        by_reply (found hs o) p ls k = let z : ◌≡◌ {A = ℕ} 0 1 = cc in absurd (omega arith)
+        by_reply (refused y) p ls k = let z : ◌≡◌ {A = ℕ} 0 1 = cc in absurd (omega arith)
+        by_reply (ended y) p ls k = refl
 
         go : (v : Laid) → Lays old 0 (w.sofar ++ own) v out' → step_of (answer_of reply) v ≡ Done → Lays old 0 whole v out'
-        go (Part p) y k = subst (λ (ls : List (List ℕ)). Lays old 0 ls (Part p) out') whole_is (lays-part (moreOf reply later) y)
-        go (Whole p) y k = subst (λ (ls : List (List ℕ)). Lays old 0 ls (Whole p) out') (sym (append-nil (w.sofar ++ own)) ∙ ap (λ (ls : List (List ℕ)). (w.sofar ++ own) ++ ls) (sym (by-reply reply p later k)) ∙ whole_is) y
+        go (Part p) y k = subst (λ (ls : List (List ℕ)). Lays old 0 ls (Part p) out') whole_is (lays_part (more_of reply later) y)
+        go (Whole p) y k = subst (λ (ls : List (List ℕ)). Lays old 0 ls (Whole p) out') (sym (append-nil (w.sofar ++ own)) ∙ ap (λ (ls : List (List ℕ)). (w.sofar ++ own) ++ ls) (sym (by_reply reply p later k)) ∙ whole_is) y
 
     -- it goes on at the next base
-    pub telling-on : {p : ℕ} → step_of x.answer x.lines ≡ On p → length l'.answers ≡ length l.answers → Telling ns lengths b s n whole old (i + 1) p x.run l' out'
-    telling-on {p} e kept = record {
+    pub telling_on : {p : ℕ} → step_of x.answer x.lines ≡ On p → length l'.answers ≡ length l.answers → Telling ns lengths b s n whole old (i + 1) p x.run l' out'
+    telling_on {p} e kept = record {
       inside = omega arith;
-      comes = comes-next s lengths r (baseIn b i) l (record { run = x.run; answer = x.answer }) l' h.gives w.comes;
+      comes = comes_next s lengths r (base_in b i) l (record { run = x.run; answer = x.answer }) l' h.gives w.comes;
       answers = kept ∙ w.answers;
       sofar = w.sofar ++ own;
       rest = ap (λ (ls : List (List ℕ)). (w.sofar ++ own) ++ ls) (sym (goes_on reply x.lines later step)) ∙ whole_is;
-      laid = subst (λ (v : Laid). Lays old 0 (w.sofar ++ own) v out') (all-stand (answer_of reply) x.lines step) laid_next;
+      laid = subst (λ (v : Laid). Lays old 0 (w.sofar ++ own) v out') (all_stand (answer_of reply) x.lines step) laid_next;
     }
       where
         step : step_of (answer_of reply) x.lines ≡ On p
-        step = ap (λ (a : Answer). step_of a x.lines) (sym answer-is) ∙ e
+        step = ap (λ (a : Answer). step_of a x.lines) (sym answer_is) ∙ e
 
-        goes_on : (t : Reply) (v : Laid) (ls : List (List ℕ)) → step_of (answer_of t) v ≡ On p → moreOf t ls ≡ ls
+        goes_on : (t : Reply) (v : Laid) (ls : List (List ℕ)) → step_of (answer_of t) v ≡ On p → more_of t ls ≡ ls
         goes_on (found hs o) v ls k = refl
         goes_on (refused y) v ls k = refl
         goes_on (ended y) (Whole q) ls k = let z : ◌≡◌ {A = ℕ} 0 1 = cc in absurd (omega arith)
         goes_on (ended y) (Part q) ls k = let z : ◌≡◌ {A = ℕ} 0 1 = cc in absurd (omega arith)
 
-        all-stand : (a : Answer) (v : Laid) → step_of a v ≡ On p → v ≡ Whole p
-        all-stand (answer.Found m o) (Whole q) k = cc
-        all-stand (answer.Refused y) (Whole q) k = cc
-        all-stand (answer.Ended y) (Whole q) k = let z : ◌≡◌ {A = ℕ} 0 1 = cc in absurd (omega arith)
-        all-stand a (Part q) k = let z : ◌≡◌ {A = ℕ} 0 1 = cc in absurd (omega arith)
+        all_stand : (a : Answer) (v : Laid) → step_of a v ≡ On p → v ≡ Whole p
+        all_stand (answer.Found m o) (Whole q) k = cc
+        all_stand (answer.Refused y) (Whole q) k = cc
+        all_stand (answer.Ended y) (Whole q) k = let z : ◌≡◌ {A = ℕ} 0 1 = cc in absurd (omega arith)
+        all_stand a (Part q) k = let z : ◌≡◌ {A = ℕ} 0 1 = cc in absurd (omega arith)
 
 -- all that is lent keeps its length
 pub record Lengths (l : Lent) (out : List ℕ) (l' : Lent) (out' : List ℕ) : Type 0 where

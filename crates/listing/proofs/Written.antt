@@ -13,18 +13,18 @@ use Rattle.lines.specs.declared.Laid.{Laid}
 use Rattle.lines.specs.declared.Laid.TheVariants.{Whole, Part}
 use Rattle.lines.specs.declared.Put.{Put}
 use Rattle.lines.specs.Put.{Puts, laid}
-use Rattle.lines.specs.Lines.{lineF}
-use Rattle.lines.specs.Laid.{joined, fitting, fitted, laid_of, onlyOf, Lays}
-use Rattle.lines.proofs.LaidLaws.{lays-only}
+use Rattle.lines.specs.Lines.{line_f}
+use Rattle.lines.specs.Laid.{joined, fitting, fitted, laid_of, only_of, Lays}
+use Rattle.lines.proofs.LaidLaws.{lays_only}
 use Rattle.heads.specs.View.{Cols}
-use Rattle.inputs.specs.Texts.{Texts, Fault, fault, faultOf, names_of, basesOf, job_of}
-use Rattle.inputs.specs.Read.{faultBy, Reads}
+use Rattle.inputs.specs.Texts.{Texts, Fault, fault, fault_of, names_of, bases_of, job_of}
+use Rattle.inputs.specs.Read.{fault_by, Reads}
 use Rattle.inputs.specs.declared.Read.{Read}
 use Rattle.inputs.specs.declared.Verdict.{Verdict}
 use Rattle.inputs.specs.declared.Verdict.TheVariants as verdict
 use Rattle.rules.specs.Job.{answers}
-use Rattle.listing.specs.Listing.{runLines, unlessFault, listing}
-use Rattle.listing.specs.Run.{toldOf}
+use Rattle.listing.specs.Listing.{run_lines, unless_fault, listing}
+use Rattle.listing.specs.Run.{told_of}
 use Rattle.listing.specs.Call.{held_of, Writes}
 use Rattle.listing.specs.declared.Listing.{Listing}
 
@@ -32,12 +32,12 @@ use Rattle.listing.specs.declared.Listing.{Listing}
 
 module _ {t : Texts} {r : Read} {from to len : List ℕ} {b s : Cols} (h : Reads t r from to len b s) where
   -- "A fault before the run gives one line"
-  pub reads-fault : {number text ahead : ℕ} {put : Put} {x : Laid} {old new : List ℕ} → r.verdict ≡ verdict.Fault number text ahead → Puts old 0 (lineF number text ahead) put new → x ≡ onlyOf put 0 → Lays old 0 (listing t) x new
+  pub reads_fault : {number text ahead : ℕ} {put : Put} {x : Laid} {old new : List ℕ} → r.verdict ≡ verdict.Fault number text ahead → Puts old 0 (line_f number text ahead) put new → x ≡ only_of put 0 → Lays old 0 (listing t) x new
   unfolding listing
-  reads-fault {number} {text} {ahead} {put} {x} {old} {new} e p q =
-      let wrong : faultOf t ≡ some (fault number text ahead) = sym h.fault ∙ ap faultBy e in
-      let lines : lineF number text ahead ∷ [] ≡ listing t = sym (ap (λ (o : Option Fault). unlessFault o (runLines (names_of t) 0 (basesOf t) (answers (job_of t) (basesOf t)))) wrong) in
-      subst (λ (ls : List (List ℕ)). Lays old 0 ls x new) lines (subst (λ (y : Laid). Lays old 0 (lineF number text ahead ∷ []) y new) (sym q) (lays-only put (omega arith) p))
+  reads_fault {number} {text} {ahead} {put} {x} {old} {new} e p q =
+      let wrong : fault_of t ≡ some (fault number text ahead) = sym h.fault ∙ ap fault_by e in
+      let lines : line_f number text ahead ∷ [] ≡ listing t = sym (ap (λ (o : Option Fault). unless_fault o (run_lines (names_of t) 0 (bases_of t) (answers (job_of t) (bases_of t)))) wrong) in
+      subst (λ (ls : List (List ℕ)). Lays old 0 ls x new) lines (subst (λ (y : Laid). Lays old 0 (line_f number text ahead ∷ []) y new) (sym q) (lays_only put (omega arith) p))
 
 -- ---- the answer
 
@@ -49,39 +49,39 @@ all_fit space (l ∷ ls) h =
     rw (le-leb (length l) space (omega (arith, n, h)), all_fit (space - length l) ls (omega (arith, n, h)))
 
 -- whether they fit, and where they end, from the buffer's start on
-laid-from-start : (old : List ℕ) (ls : List (List ℕ)) → laid_of old 0 ls ≡ cond (leb (length (joined ls)) (length old)) (Whole (length (joined ls))) (Part (length (joined (fitting (length old) ls))))
-laid-from-start old ls = rw (zero-add (length (joined ls)), sub-zero (length old), zero-add (length (joined (fitting (length old) ls))))
+laid_from_start : (old : List ℕ) (ls : List (List ℕ)) → laid_of old 0 ls ≡ cond (leb (length (joined ls)) (length old)) (Whole (length (joined ls))) (Part (length (joined (fitting (length old) ls))))
+laid_from_start old ls = rw (zero-add (length (joined ls)), sub-zero (length old), zero-add (length (joined (fitting (length old) ls))))
 
-written-from-start : (old bytes : List ℕ) → laid old 0 bytes ≡ bytes ++ drop (length bytes) old
+written_from_start : (old bytes : List ℕ) → laid old 0 bytes ≡ bytes ++ drop (length bytes) old
 unfolding laid
-written-from-start old bytes = ap (λ (n : ℕ). bytes ++ drop n old) (zero-add (length bytes))
+written_from_start old bytes = ap (λ (n : ℕ). bytes ++ drop n old) (zero-add (length bytes))
 
-pub told-written : {t : Texts} {old new : List ℕ} {l : Laid} {x : Listing} → Lays old 0 (listing t) l new → x ≡ toldOf l → Writes t old x new
-told-written {t} {old} {new} {l} {x} h e =
-    let is : x ≡ toldOf (cond (leb (length (joined (listing t))) (length old)) (Whole (length (joined (listing t)))) (Part (length (held_of (length old) t)))) = e ∙ ap toldOf (h.answer ∙ laid-from-start old (listing t)) in
+pub told_written : {t : Texts} {old new : List ℕ} {l : Laid} {x : Listing} → Lays old 0 (listing t) l new → x ≡ told_of l → Writes t old x new
+told_written {t} {old} {new} {l} {x} h e =
+    let is : x ≡ told_of (cond (leb (length (joined (listing t))) (length old)) (Whole (length (joined (listing t)))) (Part (length (held_of (length old) t)))) = e ∙ ap told_of (h.answer ∙ laid_from_start old (listing t)) in
     record {
       number = ap (λ (y : Listing). y.number) is ∙ number (leb (length (joined (listing t))) (length old));
       size = ap (λ (y : Listing). y.length) is ∙ size (leb (length (joined (listing t))) (length old)) refl;
-      written = h.written ∙ ap (λ (n : ℕ). laid old 0 (joined (fitting n (listing t)))) (sub-zero (length old)) ∙ written-from-start old (held_of (length old) t);
+      written = h.written ∙ ap (λ (n : ℕ). laid old 0 (joined (fitting n (listing t)))) (sub-zero (length old)) ∙ written_from_start old (held_of (length old) t);
     }
   where
-    number : (u : Bool) → (toldOf (cond u (Whole (length (joined (listing t)))) (Part (length (held_of (length old) t))))).number ≡ cond u 0 14
+    number : (u : Bool) → (told_of (cond u (Whole (length (joined (listing t)))) (Part (length (held_of (length old) t))))).number ≡ cond u 0 14
     number true = refl
     number false = refl
 
-    size : (u : Bool) → leb (length (joined (listing t))) (length old) ≡ u → (toldOf (cond u (Whole (length (joined (listing t)))) (Part (length (held_of (length old) t))))).length ≡ length (held_of (length old) t)
+    size : (u : Bool) → leb (length (joined (listing t))) (length old) ≡ u → (told_of (cond u (Whole (length (joined (listing t)))) (Part (length (held_of (length old) t))))).length ≡ length (held_of (length old) t)
     size true k = ap (λ (ls : List (List ℕ)). length (joined ls)) (sym (all_fit (length old) (listing t) (leb-true (length (joined (listing t))) (length old) k)))
     size false k = refl
 
 -- a listing that is no longer than its buffer stands there whole, and behind it what stood there
-pub writes-whole : {t : Texts} {old new : List ℕ} {x : Listing} → Writes t old x new → length (joined (listing t)) ≤ length old → (x.number ≡ 0) × (new ≡ joined (listing t) ++ drop (length (joined (listing t))) old)
-writes-whole {t} {old} {new} {x} h fits =
+pub writes_whole : {t : Texts} {old new : List ℕ} {x : Listing} → Writes t old x new → length (joined (listing t)) ≤ length old → (x.number ≡ 0) × (new ≡ joined (listing t) ++ drop (length (joined (listing t))) old)
+writes_whole {t} {old} {new} {x} h fits =
     let held : held_of (length old) t ≡ joined (listing t) = ap joined (all_fit (length old) (listing t) fits) in
     (h.number ∙ ap (λ (u : Bool). cond u 0 14) (le-leb (length (joined (listing t))) (length old) fits), h.written ∙ ap (λ (l : List ℕ). l ++ drop (length l) old) held)
 
 -- any two results are equal
-pub writes-alike : {t : Texts} {old a b : List ℕ} {x y : Listing} → Writes t old x a → Writes t old y b → (x ≡ y) × (a ≡ b)
-writes-alike {t} {old} {a} {b} {x} {y} h k =
+pub writes_alike : {t : Texts} {old a b : List ℕ} {x y : Listing} → Writes t old x a → Writes t old y b → (x ≡ y) × (a ≡ b)
+writes_alike {t} {old} {a} {b} {x} {y} h k =
     let n : x.number ≡ y.number = h.number ∙ sym k.number in
     let l : x.length ≡ y.length = h.size ∙ sym k.size in
     (rw (n, l), h.written ∙ sym k.written)

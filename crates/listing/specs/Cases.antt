@@ -4,18 +4,18 @@ use Rattle.rules.specs.Merge.{pick}
 use Rattle.rules.specs.Pull.{turns, pull}
 use Rattle.rules.specs.Bases.{judge}
 use Rattle.rules.specs.Offer.{offer}
-use Rattle.rules.specs.Start.{refusesStart}
+use Rattle.rules.specs.Start.{refuses_start}
 use Rattle.rules.specs.Call.{give}
 use Rattle.rules.specs.Job.{replies}
 use Rattle.fields.specs.Cut.{cut}
 use Rattle.fields.specs.Number.{digits, value, number_of}
 use Rattle.fields.specs.Names.{same, number_in}
-use Rattle.fields.specs.Table.{readLines}
+use Rattle.fields.specs.Table.{read_lines}
 use Rattle.chroms.specs.Entry.{entry_of}
 use Rattle.rows.specs.Row.{row_of}
 use Rattle.lines.specs.Lines.{spelled, decimal}
 use Rattle.lines.specs.Laid.{joined}
-use Rattle.inputs.specs.Texts.{Texts, faultOf}
+use Rattle.inputs.specs.Texts.{Texts, fault_of}
 use Rattle.listing.specs.Listing.{listing}
 
 -- the texts, and the whole listing
@@ -25,8 +25,8 @@ pub record Case : Type 0 where
   pub streams : List (List ℕ)
   pub whole : List ℕ
 
-abbrev pub listingOf : Case → List ℕ
-listingOf c = joined (listing (record { list = c.list; bases = c.bases; streams = c.streams }))
+abbrev pub listing_of : Case → List ℕ
+listing_of c = joined (listing (record { list = c.list; bases = c.bases; streams = c.streams }))
 
 abbrev pub cases : List Case
 cases =
@@ -119,6 +119,6 @@ cases =
     }
     ∷ []
 
-pub listed : map listingOf cases ≡ map (λ c. c.whole) cases
-unfolding listing faultOf refusesStart readLines cut entry_of row_of number_in same number_of digits value decimal spelled replies give judge pull turns pick offer
+pub listed : map listing_of cases ≡ map (λ c. c.whole) cases
+unfolding listing fault_of refuses_start read_lines cut entry_of row_of number_in same number_of digits value decimal spelled replies give judge pull turns pick offer
 listed = refl

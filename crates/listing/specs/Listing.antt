@@ -2,37 +2,37 @@
 use Rattle.std.proofs.Math.Option.{Option, none, some}
 use Rattle.std.specs.Prelude.{List, [], ◌∷◌, ◌++◌, map, ℕ, suc, length, get_or}
 use Rattle.rules.specs.declared.Base.{Base}
-use Rattle.rules.specs.Numbers.{refusalNumber, endNumber, endValues}
+use Rattle.rules.specs.Numbers.{refusal_number, end_number, end_values}
 use Rattle.rules.specs.Rows.{Record}
 use Rattle.rules.specs.Call.{Reply, found, refused, ended}
 use Rattle.rules.specs.Job.{answers}
-use Rattle.lines.specs.Lines.{lineB, lineR, lineX, lineE, lineF}
-use Rattle.inputs.specs.Texts.{Texts, Fault, faultOf, names_of, basesOf, job_of}
+use Rattle.lines.specs.Lines.{line_b, line_r, line_x, line_e, line_f}
+use Rattle.inputs.specs.Texts.{Texts, Fault, fault_of, names_of, bases_of, job_of}
 
 -- "A fault before the run gives one line: X, number, text [..], rows ahead"
-abbrev pub faultLine : Fault → List ℕ
-faultLine f = lineF f.number f.text f.ahead
+abbrev pub fault_line : Fault → List ℕ
+fault_line f = line_f f.number f.text f.ahead
 
 -- "R: stream, row, start, stop."
-abbrev pub recordLine : Record → List ℕ
-recordLine r = lineR r.stream.0 r.row r.it.start r.it.stop
+abbrev pub record_line : Record → List ℕ
+record_line r = line_r r.stream.0 r.row r.it.start r.it.stop
 
 -- the lines of base number i, ahead of those of the later ones; "after an ended run the listing stops"
-abbrev pub replyLines : List (List ℕ) → ℕ → Base → Reply → List (List ℕ) → List (List ℕ)
-replyLines names i b (found hits o) more = lineB (get_or names b.chrom.0 []) b.start b.stop (length hits) ∷ map recordLine hits ++ more
-replyLines names i b (refused x) more = lineX (refusalNumber x) i ∷ more
-replyLines names i b (ended e) more = lineE (endNumber e) i (endValues e) ∷ []
+abbrev pub reply_lines : List (List ℕ) → ℕ → Base → Reply → List (List ℕ) → List (List ℕ)
+reply_lines names i b (found hits o) more = line_b (get_or names b.chrom.0 []) b.start b.stop (length hits) ∷ map record_line hits ++ more
+reply_lines names i b (refused x) more = line_x (refusal_number x) i ∷ more
+reply_lines names i b (ended e) more = line_e (end_number e) i (end_values e) ∷ []
 
 -- "No base is left out"
-abbrev pub runLines : List (List ℕ) → ℕ → List Base → List Reply → List (List ℕ)
-runLines names i [] ts = []
-runLines names i (b ∷ bs) [] = []
-runLines names i (b ∷ bs) (t ∷ ts) = replyLines names i b t (runLines names (suc i) bs ts)
+abbrev pub run_lines : List (List ℕ) → ℕ → List Base → List Reply → List (List ℕ)
+run_lines names i [] ts = []
+run_lines names i (b ∷ bs) [] = []
+run_lines names i (b ∷ bs) (t ∷ ts) = reply_lines names i b t (run_lines names (suc i) bs ts)
 
-abbrev pub unlessFault : Option Fault → List (List ℕ) → List (List ℕ)
-unlessFault none more = more
-unlessFault (some f) more = faultLine f ∷ []
+abbrev pub unless_fault : Option Fault → List (List ℕ) → List (List ℕ)
+unless_fault none more = more
+unless_fault (some f) more = fault_line f ∷ []
 
 -- the lines of the whole listing
 unfoldable pub listing : Texts → List (List ℕ)
-listing t = unlessFault (faultOf t) (runLines (names_of t) 0 (basesOf t) (answers (job_of t) (basesOf t)))
+listing t = unless_fault (fault_of t) (run_lines (names_of t) 0 (bases_of t) (answers (job_of t) (bases_of t)))

@@ -3,12 +3,12 @@ ghost use Rattle.std.specs.Prelude.{◌≡◌, length};
 ghost use Rattle.fields.specs.Names.{names};
 ghost use Rattle.heads.specs.View.{cols};
 ghost use Rattle.lines.specs.Laid.{Lays};
-ghost use Rattle.inputs.specs.Texts.{rowsMost, room};
-ghost use Rattle.inputs.specs.Parted.{textsOf};
+ghost use Rattle.inputs.specs.Texts.{rows_most, room};
+ghost use Rattle.inputs.specs.Parted.{texts_of};
 ghost use Rattle.inputs.specs.Read.{Rooms};
 ghost use Rattle.walk.specs.Run.{Comes, Bases, Fine};
 ghost use Rattle.listing.specs.Listing.{listing};
-ghost use Rattle.listing.specs.Run.{lines_from, step_of, toldOf};
+ghost use Rattle.listing.specs.Run.{lines_from, step_of, told_of};
 ghost use Rattle.listing.specs.Call.{Writes};
 
 use inputs::{Read, Verdict};
@@ -108,8 +108,8 @@ fn list_run(
     stop: &[u64],
     out: &mut [u8],
 ) -> Laid
-    requires { Fine (textsOf bytes.now ends.now) read from.now to.now len.now (cols bchrom.now bstart.now bstop.now) (cols chrom.now start.now stop.now) }
-    ensures { Lays out.old 0 (listing (textsOf bytes.now ends.now)) result out.new }
+    requires { Fine (texts_of bytes.now ends.now) read from.now to.now len.now (cols bchrom.now bstart.now bstop.now) (cols chrom.now start.now stop.now) }
+    ensures { Lays out.old 0 (listing (texts_of bytes.now ends.now)) result out.new }
 {
     let a = ends[0];
     let list = &bytes[..a];
@@ -153,7 +153,7 @@ fn list_columns(
     out: &mut [u8],
 ) -> Laid
     requires { Rooms from.old to.old len.old (cols bchrom.old bstart.old bstop.old) (cols chrom.old start.old stop.old) }
-    ensures { Lays out.old 0 (listing (textsOf bytes.now ends.now)) result out.new }
+    ensures { Lays out.old 0 (listing (texts_of bytes.now ends.now)) result out.new }
 {
     let read = inputs::read_texts(
         bytes, ends, from, to, len, bchrom, bstart, bstop, chrom, start, stop,
@@ -172,7 +172,7 @@ fn list_columns(
 
 // What became of the lines, in numbers.
 fn told(l: Laid) -> Listing
-    ensures { result ≡ toldOf l }
+    ensures { result ≡ told_of l }
 {
     match l {
         Laid::Whole(p) => Listing {
@@ -190,7 +190,7 @@ fn told(l: Laid) -> Listing
 // each stream, and where each of them ends.
 #[unsafe(no_mangle)]
 pub extern "C" fn cedarlash_list(bytes: &[u8], ends: &[usize], out: &mut [u8]) -> Listing
-    ensures { Writes (textsOf bytes.now ends.now) out.old result out.new }
+    ensures { Writes (texts_of bytes.now ends.now) out.old result out.new }
 {
     let mut from = [0; 1024];
     let mut to = [0; 1024];

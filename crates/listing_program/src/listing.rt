@@ -1,7 +1,7 @@
 // The listing of texts, written out one base's lines at a time.
 ghost use Rattle.std.specs.Prelude.{◌≡◌, ◌≤◌, length};
 ghost use Rattle.heads.specs.View.{cols};
-ghost use Rattle.inputs.specs.Parted.{textsOf};
+ghost use Rattle.inputs.specs.Parted.{texts_of};
 ghost use Rattle.walk.specs.Run.{Bases, Fine};
 
 use inputs::{Read, Verdict};
@@ -123,7 +123,7 @@ fn list_read(
     start: &[u64],
     stop: &[u64],
 )
-    requires { Fine (textsOf bytes.now ends.now) read from.now to.now len.now (cols bchrom.now bstart.now bstop.now) (cols chrom.now start.now stop.now) }
+    requires { Fine (texts_of bytes.now ends.now) read from.now to.now len.now (cols bchrom.now bstart.now bstop.now) (cols chrom.now start.now stop.now) }
 {
     let a = ends[0];
     let list = &bytes[..a];

@@ -8,7 +8,7 @@ use lib.Dec.{leb, ltb}
 use lib.ListN.{length, set, drop, take, length-append, length-map, length-drop, length-set}
 use borrow.Author.Tests.{leb-true, leb-false, ltb-true, ltb-false}
 use borrow.Rule.Slice.PartMut.{mid_of, put_mid, take_put}
-use Rattle.basics.proofs.BoolLaws.{and_left, and-also, clash}
+use Rattle.basics.proofs.BoolLaws.{and_left, and_also, clash}
 use Rattle.rules.specs.declared.Base.{Base}
 use Rattle.rules.specs.declared.End.{End}
 use Rattle.rules.specs.declared.Offer.{Offer}
@@ -23,46 +23,46 @@ use Rattle.heads.specs.View.{Cols, Heads}
 use Rattle.heads.specs.Move.{Shaped}
 use Rattle.queue.specs.declared.Ring.{Ring}
 use Rattle.queue.specs.Ring.{Cells}
-use Rattle.queue.specs.Deeds.{answerRow}
+use Rattle.queue.specs.Deeds.{answer_row}
 use Rattle.pulls.specs.declared.Answered.{Answered}
 use Rattle.pulls.specs.Pulls.{Found, Kept, Lent, lent}
 use Rattle.runs.specs.declared.Run.{Run}
 use Rattle.runs.specs.declared.Given.{Given}
 use Rattle.runs.specs.declared.mark.Mark.{Mark}
-use Rattle.runs.specs.Marks.{stageIn, markOf}
-use Rattle.runs.specs.View.{headsOf, ringOf, runIn, overOf}
-use Rattle.runs.specs.Comes.{rightOf, given_of}
+use Rattle.runs.specs.Marks.{stage_in, mark_of}
+use Rattle.runs.specs.View.{heads_of, ring_of, run_in, over_of}
+use Rattle.runs.specs.Comes.{right_of, given_of}
 use Rattle.step.specs.declared.State.{State}
 use Rattle.step.specs.Settle.{Going}
 use Rattle.step.specs.Give.{Gives}
 use Rattle.step.specs.Step.{Ready, Steps}
 use Rattle.demands.specs.Calls.{Blameless}
-use Rattle.demands.proofs.RunAnswers.{fits-so}
-use Rattle.demands.proofs.ComesBack.{right-blameless, comes_back}
+use Rattle.demands.proofs.RunAnswers.{fits_so}
+use Rattle.demands.proofs.ComesBack.{right_blameless, comes_back}
 use Rattle.many.specs.declared.Passed.{Passed}
 use Rattle.many.specs.Many.{base_at, behind, Stays, Passes, none, one, Ends, all, short, other, Even, Answers}
 use Rattle.many.specs.Inner.{Passable}
-use Rattle.many.proofs.Parts.{mid-drop, drop-mid, put-length}
+use Rattle.many.proofs.Parts.{mid_drop, drop_mid, put_length}
 
 -- ---- one call
 
 -- an answer with records tells the reply, and how many
-pub found-reply : (t : Reply) (m : ℕ) (o : Offer) → answer.Found m o ≡ answer_of t → Found t × (m ≡ length (rows_of t))
-found-reply (found hits p) m o i = let z : m ≡ length hits = cc in (tt, z)
-found-reply (refused x) m o i = let z : ◌≡◌ {A = ℕ} 0 1 = cc in absurd (omega arith)
-found-reply (ended f) m o i = let z : ◌≡◌ {A = ℕ} 0 1 = cc in absurd (omega arith)
+pub found_reply : (t : Reply) (m : ℕ) (o : Offer) → answer.Found m o ≡ answer_of t → Found t × (m ≡ length (rows_of t))
+found_reply (found hits p) m o i = let z : m ≡ length hits = cc in (tt, z)
+found_reply (refused x) m o i = let z : ◌≡◌ {A = ℕ} 0 1 = cc in absurd (omega arith)
+found_reply (ended f) m o i = let z : ◌≡◌ {A = ℕ} 0 1 = cc in absurd (omega arith)
 
 -- a base's records lie within the answer rows
-found-fit : (s : Cols) (lengths : List ℕ) (r : Run) (b : Base) (l : Lent) (m : ℕ) (o : Offer) (u : Run) (l' : Lent) → Gives s lengths r b l (record { run = u; answer = answer.Found m o }) l' → m ≤ length l'.answers
-found-fit s lengths r b l m o u l' g =
+found_fit : (s : Cols) (lengths : List ℕ) (r : Run) (b : Base) (l : Lent) (m : ℕ) (o : Offer) (u : Run) (l' : Lent) → Gives s lengths r b l (record { run = u; answer = answer.Found m o }) l' → m ≤ length l'.answers
+found_fit s lengths r b l m o u l' g =
     let t : Reply = (given_of s lengths r b l).reply in
-    let n : m ≡ length (rows_of t) = (found-reply t m o g.settles.answer).1 in
-    let e : length l'.answers ≡ length (map answerRow (rows_of t)) + length (drop (length (rows_of t)) l.answers) = ap length g.settles.answers ∙ length-append (map answerRow (rows_of t)) (drop (length (rows_of t)) l.answers) in
-    omega (arith, n, e, length-map (rows_of t) answerRow)
+    let n : m ≡ length (rows_of t) = (found_reply t m o g.settles.answer).1 in
+    let e : length l'.answers ≡ length (map answer_row (rows_of t)) + length (drop (length (rows_of t)) l.answers) = ap length g.settles.answers ∙ length-append (map answer_row (rows_of t)) (drop (length (rows_of t)) l.answers) in
+    omega (arith, n, e, length-map (rows_of t) answer_row)
 
 -- what was answered, of what is given back by another name
-pub answers-as : {s : Cols} {lengths : List ℕ} {t : Cols} {v : Run} {l : Lent} {ns : List ℕ} {p q : Passed} {l' : Lent} {ns' : List ℕ} → q ≡ p → Answers s lengths t v l ns p l' ns' → Answers s lengths t v l ns q l' ns'
-answers-as {s} {lengths} {t} {v} {l} {ns} {l' = l'} {ns' = ns'} e a = subst (λ (x : Passed). Answers s lengths t v l ns x l' ns') (sym e) a
+pub answers_as : {s : Cols} {lengths : List ℕ} {t : Cols} {v : Run} {l : Lent} {ns : List ℕ} {p q : Passed} {l' : Lent} {ns' : List ℕ} → q ≡ p → Answers s lengths t v l ns p l' ns' → Answers s lengths t v l ns q l' ns'
+answers_as {s} {lengths} {t} {v} {l} {ns} {l' = l'} {ns' = ns'} e a = subst (λ (x : Passed). Answers s lengths t v l ns x l' ns') (sym e) a
 
 -- ---- the loop
 
@@ -95,11 +95,11 @@ pub record Like (j : Job) (h : Heads) : Type 0 where
 
 -- at base number k: the heads, the ring, the mark, what was offered, the first free answer row, what is lent and the counts
 pub record Passing (j : Job) (h : Heads) (q : Ring) (x : Mark) (p : Offer) (u k : ℕ) (m : Lent) (ms : List ℕ) : Type 0 where
-  pub passes : Passes j.s j.lengths j.t j.v j.l j.ns k u p (runIn h j.v.settings.chroms q x) m ms
-  pub blameless : Blameless j.s j.lengths (runIn h j.v.settings.chroms q x) m.cells
+  pub passes : Passes j.s j.lengths j.t j.v j.l j.ns k u p (run_in h j.v.settings.chroms q x) m ms
+  pub blameless : Blameless j.s j.lengths (run_in h j.v.settings.chroms q x) m.cells
   pub shaped : Shaped h
   pub like : Like j h
-  pub going : Going (stageIn x)
+  pub going : Going (stage_in x)
   pub room : q.room ≡ j.v.settings.room
   pub most : k ≤ length j.t.chrom
   pub free : u ≤ length m.answers
@@ -118,19 +118,19 @@ pub record Next (j : Job) (a : Answer) (h : Heads) (q : Ring) (x : Mark) (p : Of
 -- at a turn: where it goes on, the next base can be given; else this is what came of it
 pub record Turn (j : Job) (go : Bool) (a : Answer) (h : Heads) (q : Ring) (x : Mark) (p : Offer) (u k : ℕ) (m : Lent) (ms : List ℕ) : Type 0 where
   pub on : go ≡ true → Next j a h q x p u k m ms
-  pub off : go ≡ false → Gets j (record { run = runIn h j.v.settings.chroms q x; bases = k; records = u; offer = p; last = a }) m ms
+  pub off : go ≡ false → Gets j (record { run = run_in h j.v.settings.chroms q x; bases = k; records = u; offer = p; last = a }) m ms
   pub kept : Kept j.l.cells m.cells
   pub answers : length m.answers ≡ length j.l.answers
   pub counts : length ms ≡ length j.ns
 
-pub begins : (j : Job) → Passable j.s j.lengths j.t j.v j.l j.ns → Shaped (headsOf j.v) → (h : Heads) → h ≡ headsOf j.v → (q : Ring) → q ≡ ringOf j.v → Turn j true (answer.Found 0 Nothing) h q j.v.mark Nothing 0 0 j.l j.ns
+pub begins : (j : Job) → Passable j.s j.lengths j.t j.v j.l j.ns → Shaped (heads_of j.v) → (h : Heads) → h ≡ heads_of j.v → (q : Ring) → q ≡ ring_of j.v → Turn j true (answer.Found 0 Nothing) h q j.v.mark Nothing 0 0 j.l j.ns
 begins j z shaped h i q e = rw (i, e) (record { on = λ y. first; off = λ y. absurd (clash refl y); kept = refl; answers = refl; counts = refl })
   where
-    first : Next j (answer.Found 0 Nothing) (headsOf j.v) (ringOf j.v) j.v.mark Nothing 0 0 j.l j.ns
+    first : Next j (answer.Found 0 Nothing) (heads_of j.v) (ring_of j.v) j.v.mark Nothing 0 0 j.l j.ns
     first = record {
       passing = record {
         passes = none;
-        blameless = right-blameless j.s j.lengths j.v j.l z.right;
+        blameless = right_blameless j.s j.lengths j.v j.l z.right;
         shaped = shaped;
         like = record { from = refl; to = refl; streams = refl };
         going = z.going;
@@ -143,7 +143,7 @@ begins j z shaped h i q e = rw (i, e) (record { on = λ y. first; off = λ y. ab
         counts = refl;
       };
       below = z.some;
-      enough = omega (arith, (fits-so j.s j.lengths j.v j.l z.right).answer);
+      enough = omega (arith, (fits_so j.s j.lengths j.v j.l z.right).answer);
       nothing = refl;
     }
 
@@ -153,14 +153,14 @@ module _ {j : Job} {h : Heads} {q : Ring} {x : Mark} {p : Offer} {u k : ℕ} {m 
   goes : y ≡ true → Next j (answer.Found 0 Nothing) h q x p u k m ms
   goes e =
       let w : ltb k (length j.t.chrom) && leb j.v.settings.room (length m.answers - u) ≡ true = sym is ∙ e in
-      record { passing = z; below = ltb-true _ _ (and_left _ _ w); enough = leb-true _ _ (and-also (ltb k (length j.t.chrom)) _ w); nothing = refl }
+      record { passing = z; below = ltb-true _ _ (and_left _ _ w); enough = leb-true _ _ (and_also (ltb k (length j.t.chrom)) _ w); nothing = refl }
 
   -- there is none, or there are too few rows
-  stops : y ≡ false → Gets j (record { run = runIn h j.v.settings.chroms q x; bases = k; records = u; offer = p; last = answer.Found 0 Nothing }) m ms
-  stops e = record { run = runIn h j.v.settings.chroms q x; lent = m; passes = z.passes; ends = go (ltb k (length j.t.chrom)) refl (sym is ∙ e) }
+  stops : y ≡ false → Gets j (record { run = run_in h j.v.settings.chroms q x; bases = k; records = u; offer = p; last = answer.Found 0 Nothing }) m ms
+  stops e = record { run = run_in h j.v.settings.chroms q x; lent = m; passes = z.passes; ends = go (ltb k (length j.t.chrom)) refl (sym is ∙ e) }
     where
       go : (c : Bool) → ltb k (length j.t.chrom) ≡ c → c && leb j.v.settings.room (length m.answers - u) ≡ false
-          → Ends j.s j.lengths j.t k u (runIn h j.v.settings.chroms q x) m (answer.Found 0 Nothing) (runIn h j.v.settings.chroms q x) m
+          → Ends j.s j.lengths j.t k u (run_in h j.v.settings.chroms q x) m (answer.Found 0 Nothing) (run_in h j.v.settings.chroms q x) m
       go true i f = short (ltb-true k (length j.t.chrom) i) some (omega (arith, leb-false j.v.settings.room (length m.answers - u) f, z.free, z.room))
       go false i f = all (omega (arith, ltb-false k (length j.t.chrom) i, z.most))
 
@@ -173,11 +173,11 @@ module _ {j : Job} {w : Answer} {h : Heads} {q : Ring} {x : Mark} {p : Offer} {u
   z = n.passing
 
   abbrev r : Run
-  r = runIn h j.v.settings.chroms q x
+  r = run_in h j.v.settings.chroms q x
 
   -- its count has a place
-  pub count-place : k < length j.ns
-  count-place = omega (arith, n.below, z.even.counts, z.counts)
+  pub count_place : k < length j.ns
+  count_place = omega (arith, n.below, z.even.counts, z.counts)
 
   -- the answer rows from the first free one on, as they are lent
   abbrev part : Lent
@@ -186,14 +186,14 @@ module _ {j : Job} {w : Answer} {h : Heads} {q : Ring} {x : Mark} {p : Offer} {u
   abbrev at : State
   at = record { fixed = j.v.settings; ring = q; mark = x }
 
-  part-is : part ≡ behind u m
-  part-is = ap (lent m.cells) (mid-drop u m.answers)
+  part_is : part ≡ behind u m
+  part_is = ap (lent m.cells) (mid_drop u m.answers)
 
-  right : rightOf j.s j.lengths r (behind u m) ≡ true
+  right : right_of j.s j.lengths r (behind u m) ≡ true
   right = z.blameless (drop u m.answers) (omega (arith, n.enough, z.room, length-drop u m.answers))
 
   pub ready : Ready j.s j.lengths h at part
-  ready = subst (Ready j.s j.lengths h at) (sym part-is) (record { right = right; shaped = z.shaped; going = z.going })
+  ready = subst (Ready j.s j.lengths h at) (sym part_is) (record { right = right; shaped = z.shaped; going = z.going })
 
   -- a is what it got
   module _ {b : Base} (bs : b ≡ base_at j.t k) {a : Answered} {h' : Heads} {c : Cells} {rs : List (List ℕ)} (was : Steps j.s j.lengths h at b part a h' (lent c rs)) where
@@ -201,43 +201,43 @@ module _ {j : Job} {w : Answer} {h : Heads} {q : Ring} {x : Mark} {p : Offer} {u
     l' = lent c (put_mid u (length m.answers - u) m.answers rs)
 
     back_is : behind u l' ≡ lent c rs
-    back_is = ap (lent c) (drop-mid u m.answers rs z.free)
+    back_is = ap (lent c) (drop_mid u m.answers rs z.free)
 
     f : Steps j.s j.lengths h at (base_at j.t k) (behind u m) a h' (behind u l')
     f = subst (λ (y : Lent). Steps j.s j.lengths h at (base_at j.t k) (behind u m) a h' y) (sym back_is)
-        (subst (λ (y : Lent). Steps j.s j.lengths h at (base_at j.t k) y a h' (lent c rs)) part-is
+        (subst (λ (y : Lent). Steps j.s j.lengths h at (base_at j.t k) y a h' (lent c rs)) part_is
         (subst (λ (y : Base). Steps j.s j.lengths h at y part a h' (lent c rs)) bs was))
 
     stays : Stays u m l'
     stays = take_put u (length m.answers - u) m.answers rs z.free
 
-    over-is : (e : End) → overOf r e ≡ overOf j.v e
-    over-is e = rw (z.like.from, z.like.to, z.like.streams, z.room)
+    over_is : (e : End) → over_of r e ≡ over_of j.v e
+    over_is e = rw (z.like.from, z.like.to, z.like.streams, z.room)
 
     -- the run ended
-    pub over-out : (e : End) → a.answer ≡ answer.Ended e → Gets j (record { run = overOf j.v e; bases = k; records = u; offer = p; last = answer.Ended e }) l' ms
-    over-out e i = record {
+    pub over_out : (e : End) → a.answer ≡ answer.Ended e → Gets j (record { run = over_of j.v e; bases = k; records = u; offer = p; last = answer.Ended e }) l' ms
+    over_out e i = record {
       run = r;
       lent = m;
       passes = z.passes;
-      ends = other (answer.Ended e) (overOf j.v e) l' n.below (λ o. omega (arith, n.enough, z.free, z.room)) tt
-          (subst (λ (y : Run). Gives j.s j.lengths r (base_at j.t k) (behind u m) (record { run = y; answer = answer.Ended e }) (behind u l')) (over-is e) (f.ended e i)) stays;
+      ends = other (answer.Ended e) (over_of j.v e) l' n.below (λ o. omega (arith, n.enough, z.free, z.room)) tt
+          (subst (λ (y : Run). Gives j.s j.lengths r (base_at j.t k) (behind u m) (record { run = y; answer = answer.Ended e }) (behind u l')) (over_is e) (f.ended e i)) stays;
     }
 
     -- the queue and the answer rows are as long as they were
     module _ (kept : length c ≡ length m.cells) (whole : length rs ≡ length part.answers) where
       same : length l'.answers ≡ length m.answers
-      same = put-length u m.answers rs z.free whole
+      same = put_length u m.answers rs z.free whole
 
       -- it was refused
-      pub refused-out : (y : Refusal) → a.answer ≡ answer.Refused y → Turn j false (answer.Refused y) h' q x p u k l' ms
-      refused-out y e = record {
+      pub refused_out : (y : Refusal) → a.answer ≡ answer.Refused y → Turn j false (answer.Refused y) h' q x p u k l' ms
+      refused_out y e = record {
         on = λ i. absurd (clash i refl);
         off = λ i. record {
           run = r;
           lent = m;
           passes = z.passes;
-          ends = other (answer.Refused y) (runIn h' j.v.settings.chroms q x) l' n.below (λ o. omega (arith, n.enough, z.free, z.room)) tt (f.refused y e) stays;
+          ends = other (answer.Refused y) (run_in h' j.v.settings.chroms q x) l' n.below (λ o. omega (arith, n.enough, z.free, z.room)) tt (f.refused y e) stays;
         };
         kept = kept ∙ z.kept;
         answers = same ∙ z.answers;
@@ -247,22 +247,22 @@ module _ {j : Job} {w : Answer} {h : Heads} {q : Ring} {x : Mark} {p : Offer} {u
       -- it was answered
       module _ (i : ℕ) (o : Offer) (e : a.answer ≡ answer.Found i o) where
         abbrev g : Given
-        g = record { run = runIn h' j.v.settings.chroms a.ring (markOf (After (base_at j.t k))); answer = answer.Found i o }
+        g = record { run = run_in h' j.v.settings.chroms a.ring (mark_of (After (base_at j.t k))); answer = answer.Found i o }
 
         gives : Gives j.s j.lengths r (base_at j.t k) (behind u m) g (behind u l')
         gives = f.found i o e
 
-        back : Blameless j.s j.lengths g.run l'.cells × Shaped (headsOf g.run)
-        back = comes_back j.s j.lengths r (base_at j.t k) (behind u m) g (behind u l') gives right z.shaped (found-reply (given_of j.s j.lengths r (base_at j.t k) (behind u m)).reply i o gives.settles.answer).0
+        back : Blameless j.s j.lengths g.run l'.cells × Shaped (heads_of g.run)
+        back = comes_back j.s j.lengths r (base_at j.t k) (behind u m) g (behind u l') gives right z.shaped (found_reply (given_of j.s j.lengths r (base_at j.t k) (behind u m)).reply i o gives.settles.answer).0
 
-        pub more-fit : u + i ≤ length l'.answers
-        more-fit = omega (arith, found-fit j.s j.lengths r (base_at j.t k) (behind u m) i o g.run (behind u l') gives, length-drop u l'.answers, z.free, same)
+        pub more_fit : u + i ≤ length l'.answers
+        more_fit = omega (arith, found_fit j.s j.lengths r (base_at j.t k) (behind u m) i o g.run (behind u l') gives, length-drop u l'.answers, z.free, same)
 
-        pub more-place : u + i ≤ length j.l.answers
-        more-place = omega (arith, more-fit, same, z.answers)
+        pub more_place : u + i ≤ length j.l.answers
+        more_place = omega (arith, more_fit, same, z.answers)
 
-        goes_on : Like j h' → (y : Mark) → y ≡ markOf (After b) → Passing j h' a.ring y o (u + i) (k + 1) l' (set ms k i)
-        goes_on like y d = subst (λ (y' : Mark). Passing j h' a.ring y' o (u + i) (k + 1) l' (set ms k i)) (ap (λ (y' : Base). markOf (After y')) (sym bs) ∙ sym d) (record {
+        goes_on : Like j h' → (y : Mark) → y ≡ mark_of (After b) → Passing j h' a.ring y o (u + i) (k + 1) l' (set ms k i)
+        goes_on like y d = subst (λ (y' : Mark). Passing j h' a.ring y' o (u + i) (k + 1) l' (set ms k i)) (ap (λ (y' : Base). mark_of (After y')) (sym bs) ∙ sym d) (record {
           passes = one i o g.run l' z.passes gives stays;
           blameless = back.0;
           shaped = back.1;
@@ -270,13 +270,13 @@ module _ {j : Job} {w : Answer} {h : Heads} {q : Ring} {x : Mark} {p : Offer} {u
           going = tt;
           room = gives.settles.room ∙ z.room;
           most = omega (arith, n.below);
-          free = more-fit;
+          free = more_fit;
           even = record { starts = z.even.starts; stops = z.even.stops; counts = omega (arith, z.even.counts, length-set ms k i) };
           kept = kept ∙ z.kept;
           answers = same ∙ z.answers;
           counts = length-set ms k i ∙ z.counts;
         })
 
-        pub found-out : Like j h' → (y : Mark) → y ≡ markOf (After b) → (go : Bool) → go ≡ ltb (k + 1) (length j.t.chrom) && leb j.v.settings.room (length l'.answers - (u + i))
+        pub found_out : Like j h' → (y : Mark) → y ≡ mark_of (After b) → (go : Bool) → go ≡ ltb (k + 1) (length j.t.chrom) && leb j.v.settings.room (length l'.answers - (u + i))
             → Turn j go w h' a.ring y o (u + i) (k + 1) l' (set ms k i)
-        found-out like y d go is = turns (goes_on like y d) (omega arith) go is n.nothing
+        found_out like y d go is = turns (goes_on like y d) (omega arith) go is n.nothing

@@ -9,7 +9,7 @@ use Rattle.rules.specs.declared.Answer.TheVariants as answer
 use Rattle.heads.specs.View.{Cols}
 use Rattle.pulls.specs.Pulls.{Lent}
 use Rattle.runs.specs.declared.Run.{Run}
-use Rattle.demands.specs.Calls.{Came, came, Calls, countIn, all_rows, lastOffer}
+use Rattle.demands.specs.Calls.{Came, came, Calls, count_in, all_rows, last_offer}
 use Rattle.many.specs.declared.Passed.{Passed}
 use Rattle.many.specs.Many.{base_at, Unfound}
 
@@ -28,6 +28,6 @@ pub record Chain (s : Cols) (lengths : List ℕ) (t : Cols) (r : Run) (l : Lent)
   pub last : List Came
   pub stopped : Stopped (base_at t p.bases) p.last more last
   pub calls : Calls s lengths r l.cells (build (base_at t) p.bases 0 ++ more) (os ++ last) p.run l'.cells
-  pub counts : take p.bases ns' ≡ map (λ (o : Came). countIn o.answer) os
+  pub counts : take p.bases ns' ≡ map (λ (o : Came). count_in o.answer) os
   pub rows : take p.records l'.answers ≡ all_rows os
-  pub offer : p.offer ≡ lastOffer os
+  pub offer : p.offer ≡ last_offer os

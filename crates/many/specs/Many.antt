@@ -11,7 +11,7 @@ use Rattle.rules.specs.declared.Answer.TheVariants as answer
 use Rattle.heads.specs.View.{Cols}
 use Rattle.pulls.specs.Pulls.{Lent, lent}
 use Rattle.runs.specs.declared.Run.{Run}
-use Rattle.runs.specs.View.{stageOf}
+use Rattle.runs.specs.View.{stage_of}
 use Rattle.step.specs.Give.{Gives}
 use Rattle.many.specs.declared.Passed.{Passed}
 
@@ -73,17 +73,17 @@ pub record Answers (s : Cols) (lengths : List ℕ) (t : Cols) (r : Run) (l : Len
   pub ends : Ends s lengths t p.bases p.records run lent p.last p.run l'
 
 -- no base was answered
-abbrev pub nonePassed : Run → Answer → Passed
-nonePassed r a = record { run = r; bases = 0; records = 0; offer = Nothing; last = a }
+abbrev pub none_passed : Run → Answer → Passed
+none_passed r a = record { run = r; bases = 0; records = 0; offer = Nothing; last = a }
 
 -- "an ended run first (its old answer again), then 1": "lent columns differ in length"
-abbrev pub unevenBy : Stage → Answer
-unevenBy Fresh = answer.Refused Sizes
-unevenBy (After p) = answer.Refused Sizes
-unevenBy (Over e) = answer.Ended e
+abbrev pub uneven_by : Stage → Answer
+uneven_by Fresh = answer.Refused Sizes
+uneven_by (After p) = answer.Refused Sizes
+uneven_by (Over e) = answer.Ended e
 
 pub record Refuses (r : Run) (l : Lent) (ns : List ℕ) (p : Passed) (l' : Lent) (ns' : List ℕ) : Type 0 where
-  pub passed : p ≡ nonePassed r (unevenBy (stageOf r))
+  pub passed : p ≡ none_passed r (uneven_by (stage_of r))
   pub lent : l' ≡ l
   pub counts : ns' ≡ ns
 

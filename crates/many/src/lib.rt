@@ -1,10 +1,10 @@
 // Bases given to a run one after the other in one call: as by the call for one base, and faster.
 ghost use Rattle.std.specs.Prelude.{◌≡◌, ◌&&◌, ◌-◌, ◌<◌, ◌≤◌, eqb, leb, ltb, length};
-ghost use Rattle.heads.specs.View.{cols, headsBy};
+ghost use Rattle.heads.specs.View.{cols, heads_by};
 ghost use Rattle.admit.specs.Right.{right};
 ghost use Rattle.pulls.specs.Pulls.{lent};
-ghost use Rattle.runs.specs.View.{ringOf, runIn};
-ghost use Rattle.many.specs.Many.{base_at, nonePassed, Answers, GivesAll};
+ghost use Rattle.runs.specs.View.{ring_of, run_in};
+ghost use Rattle.many.specs.Many.{base_at, none_passed, Answers, GivesAll};
 ghost use Rattle.many.specs.Inner.{Passable};
 
 use admit::Lens;
@@ -45,7 +45,7 @@ fn are_even(chroms: usize, starts: usize, stops: usize, counts: usize) -> bool
 
 // No base was answered, and the first got this.
 fn none_passed(run: Run, last: Answer) -> Passed
-    ensures { result ≡ nonePassed run last }
+    ensures { result ≡ none_passed run last }
 {
     Passed {
         run: run,
@@ -77,7 +77,7 @@ fn gather(
     offer: Offer,
     last: Answer,
 ) -> Passed
-    ensures { result ≡ record { run = runIn (headsBy fours ended next run.from run.to run.settings.streams) run.settings.chroms ring mark; bases = bases; records = records; offer = offer; last = last } }
+    ensures { result ≡ record { run = run_in (heads_by fours ended next run.from run.to run.settings.streams) run.settings.chroms ring mark; bases = bases; records = records; offer = offer; last = last } }
 {
     let after = run.with(fours, ended, next, ring, mark);
     Passed {

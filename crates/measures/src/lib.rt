@@ -3,7 +3,7 @@
 ghost use Rattle.std.specs.Prelude.{◌≡◌};
 ghost use Rattle.rules.specs.Start.{sized};
 ghost use Rattle.rules.specs.Overlap.{reaches, lasts};
-ghost use Rattle.rules.specs.Numbers.{refusalNumber, endNumber};
+ghost use Rattle.rules.specs.Numbers.{refusal_number, end_number};
 
 use rules::{End, Refusal, Settings};
 
@@ -47,7 +47,7 @@ pub fn lasts(from: u64, stop: u64) -> bool
 
 // The number of a refusal that leaves the run unchanged.
 pub fn refusal_number(x: Refusal) -> u64
-    ensures { result ≡ refusalNumber x }
+    ensures { result ≡ refusal_number x }
 {
     match x {
         Refusal::Sizes => 1,
@@ -60,7 +60,7 @@ pub fn refusal_number(x: Refusal) -> u64
 
 // The number of the refusal that ended a run.
 pub fn end_number(e: End) -> u64
-    ensures { result ≡ endNumber e }
+    ensures { result ≡ end_number e }
 {
     match e {
         End::Faulty(_, _) => 7,

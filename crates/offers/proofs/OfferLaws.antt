@@ -7,7 +7,7 @@ use Prim.Native.Nat.{ℕ, ◌<◌}
 use native.Mathlib.Omega.{arith}
 use lib.Dec.{ltb, eqb}
 use borrow.Author.Tests.{eqb-true, ne_eqb}
-use Rattle.basics.specs.Lists.{keep, head?, first, All, nil, cons}
+use Rattle.basics.specs.Lists.{keep, first_one, first, All, nil, cons}
 use Rattle.basics.proofs.BoolLaws.{and_left}
 use Rattle.rules.specs.declared.Base.{Base}
 use Rattle.rules.specs.declared.Offer.TheVariants as offers
@@ -15,16 +15,16 @@ use Rattle.rules.specs.Rows.{Record}
 use Rattle.rules.specs.Merge.{Pick, none, one, pick, onto}
 use Rattle.rules.specs.Streams.{ahead}
 use Rattle.rules.specs.Overlap.{live, awaited}
-use Rattle.rules.specs.Offer.{placeFor, offer}
+use Rattle.rules.specs.Offer.{place_for, offer}
 use Rattle.rules.specs.Call.{coming}
-use Rattle.theory.proofs.Modes.{overlap-laws}
-use Rattle.least.specs.Least.{bestOf}
-use Rattle.queue.specs.Deeds.{frontOf}
-use Rattle.offers.specs.Offers.{start_at, targetBy, offerBy}
+use Rattle.theory.proofs.Modes.{overlap_laws}
+use Rattle.least.specs.Least.{best_of}
+use Rattle.queue.specs.Deeds.{front_of}
+use Rattle.offers.specs.Offers.{start_at, target_by, offer_by}
 
 -- a live record lies on the base's chromosome, so its start gives the place
-live-place : (b : Base) (r : Record) → live b r ≡ true → placeFor b (Option.some (start_at b.chrom r.it.start)) ≡ placeFor b (Option.some r)
-live-place b r e =
+live_place : (b : Base) (r : Record) → live b r ≡ true → place_for b (Option.some (start_at b.chrom r.it.start)) ≡ place_for b (Option.some r)
+live_place b r e =
     let on : r.it.chrom.0 ≡ b.chrom.0 = eqb-true r.it.chrom.0 b.chrom.0 (and_left (eqb r.it.chrom.0 b.chrom.0) _ e) in
     rw on
 
@@ -33,21 +33,21 @@ module _ (b : Base) (left : List (List Record)) where
   abbrev pub Below : Type 0
   Below = (a : Record) (rest : List Record) (ts : List (List Record)) → pick ahead left ≡ one a rest ts → a.stream.0 < 8
 
-  by-head : Below → (o : Pick Record) → pick ahead left ≡ o
-      → placeFor b (targetBy b (frontOf Option.none) (bestOf o)) ≡ placeFor b (first (awaited b) (onto (λ ts. []) o))
-  by-head low none e = refl
-  by-head low (one a rest ts) e = rw (ne_eqb a.stream.0 8 (λ q. absurd (omega (arith, low a rest ts e)))) (go (awaited b a))
+  by_head : Below → (o : Pick Record) → pick ahead left ≡ o
+      → place_for b (target_by b (front_of Option.none) (best_of o)) ≡ place_for b (first (awaited b) (onto (λ ts. []) o))
+  by_head low none e = refl
+  by_head low (one a rest ts) e = rw (ne_eqb a.stream.0 8 (λ q. absurd (omega (arith, low a rest ts e)))) (go (awaited b a))
     where
-      go : (u : Bool) → placeFor b (cond u (Option.some (start_at a.it.chrom a.it.start)) Option.none) ≡ placeFor b (head? (keep u a []))
+      go : (u : Bool) → place_for b (cond u (Option.some (start_at a.it.chrom a.it.start)) Option.none) ≡ place_for b (first_one (keep u a []))
       go true = refl
       go false = refl
 
   by_both : Below → (queue : List Record) → All (λ r. live b r ≡ true) queue
-      → placeFor b (targetBy b (frontOf (head? queue)) (bestOf (pick ahead left))) ≡ placeFor b (first (awaited b) (coming left queue))
-  by_both low [] h = by-head low (pick ahead left) refl
-  by_both low (r ∷ queue) (cons e h) = rw (overlap-laws.waits b b r (overlap-laws.same b) e) (live-place b r e)
+      → place_for b (target_by b (front_of (first_one queue)) (best_of (pick ahead left))) ≡ place_for b (first (awaited b) (coming left queue))
+  by_both low [] h = by_head low (pick ahead left) refl
+  by_both low (r ∷ queue) (cons e h) = rw (overlap_laws.waits b b r (overlap_laws.same b) e) (live_place b r e)
 
   -- what waits is live for the base
-  pub offer-by : Below → (queue : List Record) → All (λ r. live b r ≡ true) queue → offerBy b (frontOf (head? queue)) (bestOf (pick ahead left)) ≡ offer (coming left queue) b
-  unfolding offerBy offer
-  offer-by low queue h = ap (λ (o : _). cond (ltb b.start b.stop) o offers.Nothing) (by_both low queue h)
+  pub offer_by_lem : Below → (queue : List Record) → All (λ r. live b r ≡ true) queue → offer_by b (front_of (first_one queue)) (best_of (pick ahead left)) ≡ offer (coming left queue) b
+  unfolding offer_by offer
+  offer_by_lem low queue h = ap (λ (o : _). cond (ltb b.start b.stop) o offers.Nothing) (by_both low queue h)

@@ -12,8 +12,8 @@ use Rattle.queue.specs.declared.Ring.{Ring}
 use Rattle.queue.specs.declared.Front.{Front}
 use Rattle.queue.specs.Ring.{Cells, waiting}
 use Rattle.queue.specs.Deeds.{Scans, Fronts}
-use Rattle.offers.specs.Offers.{offerBy, Reports}
+use Rattle.offers.specs.Offers.{offer_by, Reports}
 
 pub reports : (q : Ring) (c : Cells) (h : Best) (b : Base) (l l' : List (List ℕ)) (first : Front) (o : Offer) (n : ℕ)
-    → Fronts q c first → o ≡ offerBy b first h → Scans (filter (overlaps b) (waiting q c)) l n l' → Reports q c h b l (answer.Found n o) l'
+    → Fronts q c first → o ≡ offer_by b first h → Scans (filter (overlaps b) (waiting q c)) l n l' → Reports q c h b l (answer.Found n o) l'
 reports q c h b l l' first o n f e s = record { answer = rw (s.count, e, f.first); answers = s.answers }

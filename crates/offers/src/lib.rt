@@ -3,10 +3,10 @@
 ghost use Rattle.std.specs.Prelude.{◌≡◌};
 ghost use Rattle.std.proofs.Math.Option.{some};
 ghost use Rattle.rules.specs.Overlap.{awaited};
-ghost use Rattle.rules.specs.Offer.{placeFor};
-ghost use Rattle.heads.specs.Move.{bestRecord};
+ghost use Rattle.rules.specs.Offer.{place_for};
+ghost use Rattle.heads.specs.Move.{best_record};
 ghost use Rattle.queue.specs.Deeds.{Scannable};
-ghost use Rattle.offers.specs.Offers.{start_at, offerBy, Reports};
+ghost use Rattle.offers.specs.Offers.{start_at, offer_by, Reports};
 
 use least::Best;
 use queue::{Front, Ring};
@@ -14,7 +14,7 @@ use rules::{Answer, Base, Chrom, Offer, Place};
 
 // The place for a record that starts at `start` on a chromosome, the first that the base awaits.
 fn place_for(b: Base, chrom: Chrom, start: u64) -> Offer
-    ensures { result ≡ placeFor b (some (start_at chrom start)) }
+    ensures { result ≡ place_for b (some (start_at chrom start)) }
 {
     let mine = b.chrom;
     if mine.0 < chrom.0 {
@@ -37,7 +37,7 @@ fn place_for(b: Base, chrom: Chrom, start: u64) -> Offer
 
 // Whether a base awaits a head: it lies on a later chromosome, or on the base's and ends after base start.
 fn is_awaited(b: Base, h: Best) -> bool
-    ensures { result ≡ awaited b (bestRecord h) }
+    ensures { result ≡ awaited b (best_record h) }
 {
     let mine = b.chrom;
     let its = h.chrom;
@@ -52,7 +52,7 @@ fn is_awaited(b: Base, h: Best) -> bool
 
 // The offer after a base: `first` is where the first that waits starts, and h is the least head.
 fn offer_after(b: Base, first: Front, h: Best) -> Offer
-    ensures { result ≡ offerBy b first h }
+    ensures { result ≡ offer_by b first h }
 {
     if b.stop <= b.start {
         return Offer::Nothing;

@@ -8,10 +8,10 @@ use Rattle.layouts.specs.declared.Answer.{Answer}
 use Rattle.layouts.specs.declared.Answer.TheVariants.{Written, Refused}
 use Rattle.spans.specs.Spans.{spans}
 use Rattle.layouts.specs.Fragments.{fragments}
-use Rattle.fragment_rules.specs.Rules.{ruleOf}
+use Rattle.fragment_rules.specs.Rules.{rule_of}
 use Rattle.layouts.specs.Layout.{Layout, layout}
-use Rattle.layouts.specs.Columns.{Columns, holding, readBack}
-use Rattle.parts.specs.Valid.{sizedOf}
+use Rattle.layouts.specs.Columns.{Columns, holding, read_back}
+use Rattle.parts.specs.Valid.{sized_of}
 use Rattle.layouts.specs.Judged.{unless, judged}
 
 -- the lengths of the columns that are lent
@@ -32,15 +32,15 @@ lens_of starts stops c =
 -- "1 is first; a base with start > stop is 6; then 13, then 14."
 abbrev pub answered : Choice → Choice → Span → List ℕ → List ℕ → Columns → Answer
 answered a b base starts stops c =
-    unless (sizedOf (lens_of starts stops c)) Sizes (judged (ruleOf a b) base (spans starts stops) (length c.present) (length c.pstart))
+    unless (sized_of (lens_of starts stops c)) Sizes (judged (rule_of a b) base (spans starts stops) (length c.present) (length c.pstart))
 
 -- the columns afterwards: the layout in front where it is written, and unchanged at a refusal, "nothing written"
-abbrev pub leftBy : Answer → Layout → Columns → Columns
-leftBy (Written n m) l c = holding l c
-leftBy (Refused x) l c = c
+abbrev pub left_by : Answer → Layout → Columns → Columns
+left_by (Written n m) l c = holding l c
+left_by (Refused x) l c = c
 
 -- the answer and the columns are these, and what a caller reads back are the fragments of the scope document
 pub record Parted (a b : Choice) (base : Span) (starts stops : List ℕ) (c : Columns) (r : Answer) (c' : Columns) : Type 0 where
-  pub answer-is : r ≡ answered a b base starts stops c
-  pub columns-are : c' ≡ leftBy r (layout (ruleOf a b) base (spans starts stops)) c
-  pub reads-back : (n m : ℕ) → r ≡ Written n m → readBack n c' ≡ fragments a b base (spans starts stops)
+  pub answer_is : r ≡ answered a b base starts stops c
+  pub columns_are : c' ≡ left_by r (layout (rule_of a b) base (spans starts stops)) c
+  pub reads_back : (n m : ℕ) → r ≡ Written n m → read_back n c' ≡ fragments a b base (spans starts stops)

@@ -1,7 +1,7 @@
 // Fragments: what a base and one stream's records overlapping it come to, under a choice for the base (A) and one for the records (B).
 ghost use Rattle.std.specs.Prelude.{◌≡◌};
 ghost use Rattle.layouts.specs.Columns.{columns};
-ghost use Rattle.parts.specs.Valid.{sizedOf, number_of, refusalNumber};
+ghost use Rattle.parts.specs.Valid.{sized_of, number_of, refusal_number};
 ghost use Rattle.parts.specs.Promise.{Parted};
 
 use fragment_columns::lay;
@@ -27,7 +27,7 @@ pub struct Lens {
 
 // Whether the lent columns that belong together are of one length.
 fn is_sized(l: Lens) -> bool
-    ensures { result ≡ sizedOf l }
+    ensures { result ≡ sized_of l }
 {
     if l.starts != l.stops {
         return false;
@@ -110,7 +110,7 @@ pub fn number(r: Answer) -> u64
 
 // The number of a refusal in the scope document.
 fn refusal_number(x: Refusal) -> u64
-    ensures { result ≡ refusalNumber x }
+    ensures { result ≡ refusal_number x }
 {
     match x {
         Refusal::Sizes => 1,

@@ -7,8 +7,8 @@ use native.Mathlib.Omega.{arith}
 use lib.Dec.{leb, ltb}
 use lib.ListN.{length}
 use borrow.Author.Tests.{le-leb, lt-leb, le-ltb}
-use Rattle.basics.specs.Lists.{total, filter, keep, head?, All, nil, cons}
-use Rattle.basics.proofs.ListLaws.{all_append, length-filter}
+use Rattle.basics.specs.Lists.{total, filter, keep, first_one, All, nil, cons}
+use Rattle.basics.proofs.ListLaws.{all_append, length_filter}
 use Rattle.rules.specs.declared.Base.{Base}
 use Rattle.rules.specs.declared.Chrom.{Chrom}
 use Rattle.rules.specs.declared.End.{End}
@@ -23,42 +23,42 @@ use Rattle.rules.specs.Streams.{ahead, next}
 use Rattle.rules.specs.Overlap.{taken, live, overlaps}
 use Rattle.rules.specs.Pull.{Pull, paused, ends, pull}
 use Rattle.rules.specs.Offer.{offer}
-use Rattle.rules.specs.Call.{Reply, found, refused, ended, coming, afterPull, end}
+use Rattle.rules.specs.Call.{Reply, found, refused, ended, coming, after_pull, end}
 use Rattle.rules.specs.Call as rules
 use Rattle.least.specs.declared.Best.{Best}
 use Rattle.heads.specs.declared.Taken.{Taken}
 use Rattle.heads.specs.declared.Move.{Move}
 use Rattle.heads.specs.declared.Move.TheVariants as move
-use Rattle.heads.specs.View.{Cols, Heads, restsOf}
-use Rattle.least.specs.Least.{bestOf}
-use Rattle.heads.specs.Move.{turn_of, moved, takenRecord}
-use Rattle.heads.proofs.RestLaws.{onMove, queued, pull-move}
-use Rattle.heads.proofs.TurnLaws.{Turning, Takes, turn-here, stays-best, least-below}
+use Rattle.heads.specs.View.{Cols, Heads, rests_of}
+use Rattle.least.specs.Least.{best_of}
+use Rattle.heads.specs.Move.{turn_of, moved, taken_record}
+use Rattle.heads.proofs.RestLaws.{on_move, queued, pull_move}
+use Rattle.heads.proofs.TurnLaws.{Turning, Takes, turn_here, stays_best, least_below}
 use Rattle.queue.specs.declared.Ring.{Ring}
-use Rattle.queue.specs.Ring.{Cells, Fair, recordOf, waiting}
-use Rattle.queue.specs.Deeds.{Scannable, frontOf}
-use Rattle.queue.proofs.Waiting.{length-waiting}
-use Rattle.offers.specs.Offers.{offerBy, Reports}
-use Rattle.offers.proofs.OfferLaws.{offer-by}
-use Rattle.pulls.specs.Pulls.{afterTurns, drawnTo, Kept, Lent, lent, Drawable, slot_of, KeptAs, FullAs, DrawsAs}
+use Rattle.queue.specs.Ring.{Cells, Fair, record_of, waiting}
+use Rattle.queue.specs.Deeds.{Scannable, front_of}
+use Rattle.queue.proofs.Waiting.{length_waiting}
+use Rattle.offers.specs.Offers.{offer_by, Reports}
+use Rattle.offers.proofs.OfferLaws.{offer_by_lem}
+use Rattle.pulls.specs.Pulls.{after_turns, drawn_to, Kept, Lent, lent, Drawable, slot_of, KeptAs, FullAs, DrawsAs}
 
 -- ---- the heads
 
 -- where no head is to be taken the heads stay
-turns-stay : (s : Cols) (n : ℕ) (b : Base) (k : ℕ) (h : Heads) (x : Best) → turn_of s n b h ≡ move.Stay x → afterTurns s n b k h ≡ h
-unfolding afterTurns
-turns-stay s n b zero h x e = refl
-turns-stay s n b (suc k) h x e = ap (λ (m : Move). afterTurns s n b k (moved h m)) e ∙ turns-stay s n b k h x e
+turns_stay : (s : Cols) (n : ℕ) (b : Base) (k : ℕ) (h : Heads) (x : Best) → turn_of s n b h ≡ move.Stay x → after_turns s n b k h ≡ h
+unfolding after_turns
+turns_stay s n b zero h x e = refl
+turns_stay s n b (suc k) h x e = ap (λ (m : Move). after_turns s n b k (moved h m)) e ∙ turns_stay s n b k h x e
 
 -- a turn that leaves one row less is one of the turns
-turns_next : (s : Cols) (n : ℕ) (b : Base) (h g : Heads) → moved h (turn_of s n b h) ≡ g → total (restsOf s h) ≡ suc (total (restsOf s g)) → drawnTo s n b h ≡ drawnTo s n b g
-unfolding afterTurns
-turns_next s n b h g e f = ap (λ (k : ℕ). afterTurns s n b k h) f ∙ ap (afterTurns s n b (total (restsOf s g))) e
+turns_next : (s : Cols) (n : ℕ) (b : Base) (h g : Heads) → moved h (turn_of s n b h) ≡ g → total (rests_of s h) ≡ suc (total (rests_of s g)) → drawn_to s n b h ≡ drawn_to s n b g
+unfolding after_turns
+turns_next s n b h g e f = ap (λ (k : ℕ). after_turns s n b k h) f ∙ ap (after_turns s n b (total (rests_of s g))) e
 
 -- ---- the queue
 
-pub fair-kept : {q w : Ring} {c d : Cells} → Fair q c → Fair w d → w.room ≡ q.room → Kept c d
-fair-kept f g e = g.slots ∙ e ∙ sym f.slots
+pub fair_kept : {q w : Ring} {c d : Cells} → Fair q c → Fair w d → w.room ≡ q.room → Kept c d
+fair_kept f g e = g.slots ∙ e ∙ sym f.slots
 
 -- ---- the loop
 
@@ -66,7 +66,7 @@ fair-kept f g e = g.slots ∙ e ∙ sym f.slots
 module _ (s : Cols) (n : ℕ) (h : Heads) (b : Base) (q : Ring) (l : Lent) where
   -- the pull from what is left and what waits
   abbrev from : Heads → List Record → Pull Record End
-  from u queue = pull ahead (next n) NoRoom (taken b) (live b) q.room (restsOf s u) queue
+  from u queue = pull ahead (next n) NoRoom (taken b) (live b) q.room (rests_of s u) queue
 
   -- u, w and c: the heads, the ring and the queue's memory at a turn
   pub record Drawing (u : Heads) (w : Ring) (c : Cells) : Type 0 where
@@ -77,7 +77,7 @@ module _ (s : Cols) (n : ℕ) (h : Heads) (b : Base) (q : Ring) (l : Lent) where
     pub room : w.room ≡ q.room
     pub kept : Kept l.cells c
     pub pulls : from u (waiting w c) ≡ from h (waiting q l.cells)
-    pub draws : drawnTo s n b u ≡ drawnTo s n b h
+    pub draws : drawn_to s n b u ≡ drawn_to s n b h
 
   pub starts : Drawable s h b q l → Drawing h q l.cells
   starts d = record {
@@ -93,49 +93,49 @@ module _ (s : Cols) (n : ℕ) (h : Heads) (b : Base) (q : Ring) (l : Lent) where
 
   module _ (u : Heads) (w : Ring) (c : Cells) (d : Drawing u w c) where
     abbrev pub here : Move
-    here = turn-here s u d.turning n b
+    here = turn_here s u d.turning n b
 
     -- a turn of the pull
-    pub on-move : (m : Move) → m ≡ here → from u (waiting w c) ≡ onMove s u n b NoRoom q.room (waiting w c) m
-    on-move m e = pull-move s u d.turning.shaped d.turning.placed.few n b NoRoom q.room (waiting w c) ∙ ap (onMove s u n b NoRoom q.room (waiting w c)) (sym e)
+    pub on_move_lem : (m : Move) → m ≡ here → from u (waiting w c) ≡ on_move s u n b NoRoom q.room (waiting w c) m
+    on_move_lem m e = pull_move s u d.turning.shaped d.turning.placed.few n b NoRoom q.room (waiting w c) ∙ ap (on_move s u n b NoRoom q.room (waiting w c)) (sym e)
 
     -- what waits after a head was taken
-    more-kept : (t : Taken) (w' : Ring) (c' : Cells) → KeptAs w c t w' c' → waiting w' c' ≡ waiting w c ++ keep t.live (takenRecord b t) []
-    more-kept t w' c' k = k.more ∙ ap (λ (x : Chrom). waiting w c ++ keep t.live (recordOf x (slot_of t)) []) d.chrom
+    more_kept : (t : Taken) (w' : Ring) (c' : Cells) → KeptAs w c t w' c' → waiting w' c' ≡ waiting w c ++ keep t.live (taken_record b t) []
+    more_kept t w' c' k = k.more ∙ ap (λ (x : Chrom). waiting w c ++ keep t.live (record_of x (slot_of t)) []) d.chrom
 
     -- the pull goes on from it
-    queued-kept : (t : Taken) (w' : Ring) (c' : Cells) → KeptAs w c t w' c' → (ss : List (List Record))
+    queued_kept : (t : Taken) (w' : Ring) (c' : Cells) → KeptAs w c t w' c' → (ss : List (List Record))
         → queued n b NoRoom q.room (waiting w c) t ss ≡ pull ahead (next n) NoRoom (taken b) (live b) q.room ss (waiting w' c')
-    queued-kept t w' c' k ss = rw (more-kept t w' c' k) (go t.live refl)
+    queued_kept t w' c' k ss = rw (more_kept t w' c' k) (go t.live refl)
       where
         go : (v : Bool) → t.live ≡ v
-            → cond v (cond (leb q.room (length (waiting w c))) (ends NoRoom) (pull ahead (next n) NoRoom (taken b) (live b) q.room ss (waiting w c ++ takenRecord b t ∷ []))) (pull ahead (next n) NoRoom (taken b) (live b) q.room ss (waiting w c))
-            ≡ pull ahead (next n) NoRoom (taken b) (live b) q.room ss (waiting w c ++ keep v (takenRecord b t) [])
+            → cond v (cond (leb q.room (length (waiting w c))) (ends NoRoom) (pull ahead (next n) NoRoom (taken b) (live b) q.room ss (waiting w c ++ taken_record b t ∷ []))) (pull ahead (next n) NoRoom (taken b) (live b) q.room ss (waiting w c))
+            ≡ pull ahead (next n) NoRoom (taken b) (live b) q.room ss (waiting w c ++ keep v (taken_record b t) [])
         go true e = rw (lt-leb q.room (length (waiting w c)) (omega (arith, k.fewer e, d.room)))
         go false e = rw (append-nil (waiting w c))
 
-    pub queued-full : (t : Taken) (c' : Cells) → FullAs w c t c' → (ss : List (List Record)) → queued n b NoRoom q.room (waiting w c) t ss ≡ ends NoRoom
-    queued-full t c' k ss = rw (k.lives, le-leb q.room (length (waiting w c)) (omega (arith, k.full, d.room)))
+    pub queued_full : (t : Taken) (c' : Cells) → FullAs w c t c' → (ss : List (List Record)) → queued n b NoRoom q.room (waiting w c) t ss ≡ ends NoRoom
+    queued_full t c' k ss = rw (k.lives, le-leb q.room (length (waiting w c)) (omega (arith, k.full, d.room)))
 
-    still-live : (t : Taken) (w' : Ring) (c' : Cells) → KeptAs w c t w' c' → (t.live ≡ true → live b (takenRecord b t) ≡ true) → All (λ a. live b a ≡ true) (waiting w' c')
-    still-live t w' c' k lively = rw (more-kept t w' c' k) (all_append d.cleared (go t.live lively))
+    still_live : (t : Taken) (w' : Ring) (c' : Cells) → KeptAs w c t w' c' → (t.live ≡ true → live b (taken_record b t) ≡ true) → All (λ a. live b a ≡ true) (waiting w' c')
+    still_live t w' c' k lively = rw (more_kept t w' c' k) (all_append d.cleared (go t.live lively))
       where
-        go : (v : Bool) → (v ≡ true → live b (takenRecord b t) ≡ true) → All (λ a. live b a ≡ true) (keep v (takenRecord b t) [])
+        go : (v : Bool) → (v ≡ true → live b (taken_record b t) ≡ true) → All (λ a. live b a ≡ true) (keep v (taken_record b t) [])
         go true f = cons (f refl) nil
         go false f = nil
 
     -- a head was taken: g are the heads after it
     pub steps : (m : Move) → m ≡ here → (t : Taken) (g : Heads) → Takes s b u t g → moved u m ≡ g
-        → onMove s u n b NoRoom q.room (waiting w c) m ≡ queued n b NoRoom q.room (waiting w c) t (restsOf s g)
+        → on_move s u n b NoRoom q.room (waiting w c) m ≡ queued n b NoRoom q.room (waiting w c) t (rests_of s g)
         → (w' : Ring) (c' : Cells) → KeptAs w c t w' c' → Drawing g w' c'
     steps m e t g k to-g on w' c' p = record {
       turning = k.turning;
       fair = p.fair;
       chrom = p.chrom ∙ d.chrom;
-      cleared = still-live t w' c' p k.lively;
+      cleared = still_live t w' c' p k.lively;
       room = p.room ∙ d.room;
-      kept = fair-kept d.fair p.fair p.room ∙ d.kept;
-      pulls = sym (queued-kept t w' c' p (restsOf s g)) ∙ sym on ∙ sym (on-move m e) ∙ d.pulls;
+      kept = fair_kept d.fair p.fair p.room ∙ d.kept;
+      pulls = sym (queued_kept t w' c' p (rests_of s g)) ∙ sym on ∙ sym (on_move_lem m e) ∙ d.pulls;
       draws = sym (turns_next s n b u g (ap (moved u) (sym e) ∙ to-g) k.less) ∙ d.draws;
     }
 
@@ -147,24 +147,24 @@ module _ (s : Cols) (n : ℕ) (h : Heads) (b : Base) (q : Ring) (l : Lent) where
     ends_so e c' r k is same = rw (is, same) (record { answer = refl; found = λ z. absurd z; kept = k; answers = refl })
 
     -- no head is to be taken: the base is answered
-    pub stays-so : Drawable s h b q l → (m : Move) → m ≡ here → (x : Best) → m ≡ move.Stay x → (a : Answer) (r : List (List ℕ)) → Reports w c x b l.answers a r
+    pub stays_so : Drawable s h b q l → (m : Move) → m ≡ here → (x : Best) → m ≡ move.Stay x → (a : Answer) (r : List (List ℕ)) → Reports w c x b l.answers a r
         → DrawsAs s n h b q l (record { ring = w; answer = a }) u (lent c r)
-    stays-so z m e x i a r k = rw is-paused (rw few (record {
+    stays_so z m e x i a r k = rw is_paused (rw few (record {
       answer = k.answer ∙ rw place;
-      found = λ y. record { shaped = d.turning.shaped; heads = sym last-heads; run = refl; fair = d.fair; room = d.room };
+      found = λ y. record { shaped = d.turning.shaped; heads = sym last_heads; run = refl; fair = d.fair; room = d.room };
       kept = d.kept;
       answers = k.answers;
     }))
       where
-        is-paused : from h (waiting q l.cells) ≡ paused (restsOf s u) (waiting w c)
-        is-paused = sym d.pulls ∙ on-move m e ∙ ap (onMove s u n b NoRoom q.room (waiting w c)) i
+        is_paused : from h (waiting q l.cells) ≡ paused (rests_of s u) (waiting w c)
+        is_paused = sym d.pulls ∙ on_move_lem m e ∙ ap (on_move s u n b NoRoom q.room (waiting w c)) i
 
         few : ltb (length l.answers) (length (filter (overlaps b) (waiting w c))) ≡ false
-        few = le-ltb (length l.answers) (length (filter (overlaps b) (waiting w c))) (omega (arith, length-filter (overlaps b) (waiting w c), length-waiting w c, d.fair.sound.fits, d.room, z.answers))
+        few = le-ltb (length l.answers) (length (filter (overlaps b) (waiting w c))) (omega (arith, length_filter (overlaps b) (waiting w c), length_waiting w c, d.fair.sound.fits, d.room, z.answers))
 
-        place : offerBy b (frontOf (head? (waiting w c))) x ≡ offer (coming (restsOf s u) (waiting w c)) b
-        place = ap (offerBy b (frontOf (head? (waiting w c)))) (stays-best s u d.turning n b m e x i)
-            ∙ offer-by b (restsOf s u) (least-below s u d.turning n b) (waiting w c) d.cleared
+        place : offer_by b (front_of (first_one (waiting w c))) x ≡ offer (coming (rests_of s u) (waiting w c)) b
+        place = ap (offer_by b (front_of (first_one (waiting w c)))) (stays_best s u d.turning n b m e x i)
+            ∙ offer_by_lem b (rests_of s u) (least_below s u d.turning n b) (waiting w c) d.cleared
 
-        last-heads : drawnTo s n b h ≡ u
-        last-heads = sym d.draws ∙ turns-stay s n b (total (restsOf s u)) u x (sym e ∙ i)
+        last_heads : drawn_to s n b h ≡ u
+        last_heads = sym d.draws ∙ turns_stay s n b (total (rests_of s u)) u x (sym e ∙ i)

@@ -9,29 +9,29 @@ use Rattle.rules.specs.Rows.{Record}
 use Rattle.rules.specs.Streams.{ahead, next}
 use Rattle.rules.specs.Overlap.{taken, live}
 use Rattle.rules.specs.Pull.{Pull, pull}
-use Rattle.rules.specs.Call.{Reply, found, refused, ended, answer_of, column, afterPull, pulling}
+use Rattle.rules.specs.Call.{Reply, found, refused, ended, answer_of, column, after_pull, pulling}
 use Rattle.rules.specs.Call as rules
 use Rattle.heads.specs.declared.Taken.{Taken}
-use Rattle.heads.specs.View.{Cols, Heads, restsOf}
+use Rattle.heads.specs.View.{Cols, Heads, rests_of}
 use Rattle.heads.specs.Move.{turn_of, moved, Placed, Shaped}
 use Rattle.queue.specs.declared.Ring.{Ring}
 use Rattle.queue.specs.declared.Slot.{Slot}
 use Rattle.queue.specs.declared.Pushed.{Pushed}
 use Rattle.queue.specs.declared.Pushed.TheVariants.{Done, Full}
-use Rattle.queue.specs.Ring.{Cells, Fair, recordOf, waiting}
-use Rattle.queue.specs.Deeds.{answerRow}
+use Rattle.queue.specs.Ring.{Cells, Fair, record_of, waiting}
+use Rattle.queue.specs.Deeds.{answer_row}
 use Rattle.pulls.specs.declared.Answered.{Answered}
 
 -- ---- the heads
 
 -- the heads after k turns; where no head is to be taken a turn changes nothing
-unfoldable pub afterTurns : Cols → ℕ → Base → ℕ → Heads → Heads
-afterTurns s n b zero h = h
-afterTurns s n b (suc k) h = afterTurns s n b k (moved h (turn_of s n b h))
+unfoldable pub after_turns : Cols → ℕ → Base → ℕ → Heads → Heads
+after_turns s n b zero h = h
+after_turns s n b (suc k) h = after_turns s n b k (moved h (turn_of s n b h))
 
 -- "heads are taken while" they are to be taken: a turn for each row that is left, at most
-abbrev pub drawnTo : Cols → ℕ → Base → Heads → Heads
-drawnTo s n b h = afterTurns s n b (total (restsOf s h)) h
+abbrev pub drawn_to : Cols → ℕ → Base → Heads → Heads
+drawn_to s n b h = after_turns s n b (total (rests_of s h)) h
 
 -- ---- what is lent
 
@@ -56,14 +56,14 @@ Found (ended e) = ⊥
 -- ---- one pull
 
 -- what a run comes to by the rules whose loaded heads are h and whose queue is q: a base that it accepts is `b`
-abbrev pub standsAt : Cols → Heads → Ring → Cells → Base → rules.Run
-standsAt s h q c b = record { left = restsOf s h; queue = waiting q c; stage = After b }
+abbrev pub stands_at : Cols → Heads → Ring → Cells → Base → rules.Run
+stands_at s h q c b = record { left = rests_of s h; queue = waiting q c; stage = After b }
 
 -- where the base was answered: the heads after the pull, what is left and what waits in a queue of room m
 pub record FoundIn (s : Cols) (n : ℕ) (b : Base) (h : Heads) (m : ℕ) (t : rules.Given) (w : Ring) (h' : Heads) (c' : Cells) : Type 0 where
   pub shaped : Shaped h'
-  pub heads : h' ≡ drawnTo s n b h
-  pub run : standsAt s h' w c' b ≡ t.run
+  pub heads : h' ≡ drawn_to s n b h
+  pub run : stands_at s h' w c' b ≡ t.run
   pub fair : Fair w c'
   pub room : w.room ≡ m
 
@@ -73,11 +73,11 @@ pub record SettlesIn (s : Cols) (n : ℕ) (b : Base) (h : Heads) (m : ℕ) (t : 
   pub answer : a.answer ≡ answer_of t.reply
   pub found : Found t.reply → FoundIn s n b h m t a.ring h' l'.cells
   pub kept : Kept l.cells l'.cells
-  pub answers : l'.answers ≡ column answerRow t.reply l.answers
+  pub answers : l'.answers ≡ column answer_row t.reply l.answers
 
 -- the pull at b from the heads h and the ring q, of n chromosomes
-abbrev pub pullOf : Cols → ℕ → Heads → Base → Ring → Cells → Pull Record End
-pullOf s n h b q c = pull ahead (next n) NoRoom (taken b) (live b) q.room (restsOf s h) (waiting q c)
+abbrev pub pull_of : Cols → ℕ → Heads → Base → Ring → Cells → Pull Record End
+pull_of s n h b q c = pull ahead (next n) NoRoom (taken b) (live b) q.room (rests_of s h) (waiting q c)
 
 -- what a pull asks: the arrays have their eight places, the streams are placed, the queue was cleared for the base, there are answer rows for all that can wait
 pub record Drawable (s : Cols) (h : Heads) (b : Base) (q : Ring) (l : Lent) : Type 0 where
@@ -98,7 +98,7 @@ pub record KeptAs (q : Ring) (c : Cells) (t : Taken) (w : Ring) (c' : Cells) : T
   pub room : w.room ≡ q.room
   pub chrom : w.chrom ≡ q.chrom
   pub fewer : t.live ≡ true → length (waiting q c) < q.room
-  pub more : waiting w c' ≡ waiting q c ++ keep t.live (recordOf q.chrom (slot_of t)) []
+  pub more : waiting w c' ≡ waiting q c ++ keep t.live (record_of q.chrom (slot_of t)) []
 
 -- "9 if Q live records are queued already": the slots are as they were
 pub record FullAs (q : Ring) (c : Cells) (t : Taken) (c' : Cells) : Type 0 where
@@ -113,7 +113,7 @@ pub record Keeps (q : Ring) (c : Cells) (t : Taken) (p : Pushed) (c' : Cells) : 
 
 -- what a pull comes to
 abbrev pub DrawsAs : Cols → ℕ → Heads → Base → Ring → Lent → Answered → Heads → Lent → Type 0
-DrawsAs s n h b q l a h' l' = SettlesIn s n b h q.room (afterPull (length l.answers) (standsAt s h q l.cells b) b (pullOf s n h b q l.cells)) l a h' l'
+DrawsAs s n h b q l a h' l' = SettlesIn s n b h q.room (after_pull (length l.answers) (stands_at s h q l.cells b) b (pull_of s n h b q l.cells)) l a h' l'
 
 -- ---- an accepted base
 
@@ -126,4 +126,4 @@ pub record Settleable (s : Cols) (h : Heads) (q : Ring) (l : Lent) : Type 0 wher
 
 -- what it comes to
 abbrev pub SettlesAs : Cols → ℕ → Heads → Base → Ring → Lent → Answered → Heads → Lent → Type 0
-SettlesAs s n h b q l a h' l' = SettlesIn s n b h q.room (pulling n q.room (length l.answers) (standsAt s h q l.cells b) b) l a h' l'
+SettlesAs s n h b q l a h' l' = SettlesIn s n b h q.room (pulling n q.room (length l.answers) (stands_at s h q l.cells b) b) l a h' l'

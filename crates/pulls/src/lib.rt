@@ -1,6 +1,6 @@
 // An accepted base: heads are taken, what is live is queued, and the base is answered. The heads lie in one array of fours and go on in place.
 ghost use Rattle.std.specs.Prelude.{◌≡◌};
-ghost use Rattle.heads.specs.View.{cols, headsBy};
+ghost use Rattle.heads.specs.View.{cols, heads_by};
 ghost use Rattle.queue.specs.Ring.{Fair};
 ghost use Rattle.pulls.specs.Pulls.{lent, Keeps, Drawable, DrawsAs, Settleable, SettlesAs};
 
@@ -50,12 +50,12 @@ fn draw<'a>(
     queue: &mut [[u64; 4]],
     answers: &mut [[u64; 2]],
 ) -> Answered
-    requires { Drawable (cols chrom.now start.now stop.now) (headsBy fours.old ended.old next.old from.now to.now fixed.streams) b ring
+    requires { Drawable (cols chrom.now start.now stop.now) (heads_by fours.old ended.old next.old from.now to.now fixed.streams) b ring
         (lent queue.old answers.old) }
     ensures { DrawsAs (cols chrom.now start.now stop.now) fixed.chroms
-        (headsBy fours.old ended.old next.old from.now to.now fixed.streams) b ring
+        (heads_by fours.old ended.old next.old from.now to.now fixed.streams) b ring
         (lent queue.old answers.old) result
-        (headsBy fours.new ended.new next.new from.now to.now fixed.streams)
+        (heads_by fours.new ended.new next.new from.now to.now fixed.streams)
         (lent queue.new answers.new) }
 {
     let n = measures::number(fixed.chroms);
@@ -121,12 +121,12 @@ pub fn settle<'a>(
     queue: &mut [[u64; 4]],
     answers: &mut [[u64; 2]],
 ) -> Answered
-    requires { Settleable (cols chrom.now start.now stop.now) (headsBy fours.old ended.old next.old from.now to.now fixed.streams) ring
+    requires { Settleable (cols chrom.now start.now stop.now) (heads_by fours.old ended.old next.old from.now to.now fixed.streams) ring
         (lent queue.old answers.old) }
     ensures { SettlesAs (cols chrom.now start.now stop.now) fixed.chroms
-        (headsBy fours.old ended.old next.old from.now to.now fixed.streams) b ring
+        (heads_by fours.old ended.old next.old from.now to.now fixed.streams) b ring
         (lent queue.old answers.old) result
-        (headsBy fours.new ended.new next.new from.now to.now fixed.streams)
+        (heads_by fours.new ended.new next.new from.now to.now fixed.streams)
         (lent queue.new answers.new) }
 {
     let live = ring.clear(queue, b);

@@ -9,7 +9,7 @@ use native.Mathlib.Omega.{arith}
 use lib.ListN.{length}
 use lib.Dec.{leb}
 use borrow.Author.Tests.{le-leb, lt-leb}
-use Rattle.basics.specs.Lists.{filter, head?}
+use Rattle.basics.specs.Lists.{filter, first_one}
 use Rattle.rules.specs.declared.Base.{Base}
 use Rattle.rules.specs.Overlap.{overlaps}
 use Rattle.queue.specs.declared.Ring.{Ring}
@@ -17,28 +17,28 @@ use Rattle.queue.specs.declared.Slot.{Slot}
 use Rattle.queue.specs.declared.Pushed.{Pushed}
 use Rattle.queue.specs.declared.Pushed.TheVariants.{Done, Full}
 use Rattle.queue.specs.declared.Front.{Front}
-use Rattle.queue.specs.Ring.{Cells, recordOf, waiting}
-use Rattle.queue.specs.Deeds.{Clears, Pushes, Scans, frontOf, held}
+use Rattle.queue.specs.Ring.{Cells, record_of, waiting}
+use Rattle.queue.specs.Deeds.{Clears, Pushes, Scans, front_of, held}
 
 -- "it is queued (9 if Q live records are queued already)", as one equation on what waits
-pub push-held : (q : Ring) (c : Cells) (x : Slot) (p : Pushed) (c' : Cells) → Pushes q c x p c' →
-    held p c' ≡ cond (leb q.room (length (waiting q c))) none (some (waiting q c ++ (recordOf q.chrom x ∷ [])))
-push-held q c x (Done q') c' h =
+pub push_held : (q : Ring) (c : Cells) (x : Slot) (p : Pushed) (c' : Cells) → Pushes q c x p c' →
+    held p c' ≡ cond (leb q.room (length (waiting q c))) none (some (waiting q c ++ (record_of q.chrom x ∷ [])))
+push_held q c x (Done q') c' h =
     let d = h.done q' refl in
     rw (lt-leb q.room (length (waiting q c)) d.fewer, d.more)
-push-held q c x Full c' h = rw (le-leb q.room (length (waiting q c)) (omega (arith, (h.full refl).full)))
+push_held q c x Full c' h = rw (le-leb q.room (length (waiting q c)) (omega (arith, (h.full refl).full)))
 
 -- two rings over memory of their own, in which the same records wait
 module _ (q p : Ring) (c d : Cells) (same : waiting q c ≡ waiting p d) where
-  pub push-alike : (x : Slot) (r s : Pushed) (c' d' : Cells) → q.room ≡ p.room → q.chrom ≡ p.chrom → Pushes q c x r c' → Pushes p d x s d' → held r c' ≡ held s d'
-  push-alike x r s c' d' rooms chroms h k = push-held q c x r c' h ∙ rw (same, rooms, chroms) (sym (push-held p d x s d' k))
+  pub push_alike : (x : Slot) (r s : Pushed) (c' d' : Cells) → q.room ≡ p.room → q.chrom ≡ p.chrom → Pushes q c x r c' → Pushes p d x s d' → held r c' ≡ held s d'
+  push_alike x r s c' d' rooms chroms h k = push_held q c x r c' h ∙ rw (same, rooms, chroms) (sym (push_held p d x s d' k))
 
-  pub clear-alike : (b : Base) (q' p' : Ring) (c' d' : Cells) → Clears q c b q' c' → Clears p d b p' d' → waiting q' c' ≡ waiting p' d'
-  clear-alike b q' p' c' d' h k = h.left ∙ rw same (sym k.left)
+  pub clear_alike : (b : Base) (q' p' : Ring) (c' d' : Cells) → Clears q c b q' c' → Clears p d b p' d' → waiting q' c' ≡ waiting p' d'
+  clear_alike b q' p' c' d' h k = h.left ∙ rw same (sym k.left)
 
-  pub scan-alike : (b : Base) (l l₁ l₂ : List (List ℕ)) (m n : ℕ) →
+  pub scan_alike : (b : Base) (l l₁ l₂ : List (List ℕ)) (m n : ℕ) →
       Scans (filter (overlaps b) (waiting q c)) l m l₁ → Scans (filter (overlaps b) (waiting p d)) l n l₂ → (m ≡ n) × (l₁ ≡ l₂)
-  scan-alike b l l₁ l₂ m n h k = (h.count ∙ rw same (sym k.count), h.answers ∙ rw same (sym k.answers))
+  scan_alike b l l₁ l₂ m n h k = (h.count ∙ rw same (sym k.count), h.answers ∙ rw same (sym k.answers))
 
-  pub front-alike : (r s : Front) → r ≡ frontOf (head? (waiting q c)) → s ≡ frontOf (head? (waiting p d)) → r ≡ s
-  front-alike r s h k = h ∙ rw same (sym k)
+  pub front_alike : (r s : Front) → r ≡ front_of (first_one (waiting q c)) → s ≡ front_of (first_one (waiting p d)) → r ≡ s
+  front_alike r s h k = h ∙ rw same (sym k)

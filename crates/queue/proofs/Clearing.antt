@@ -9,17 +9,17 @@ use lib.ListN.{get_or, set}
 use borrow.Author.Count.{below_more}
 use Rattle.basics.specs.Build.{build}
 use Rattle.basics.specs.Lists.{filter, front, back, All}
-use Rattle.basics.proofs.ListLaws.{filter-all, front-all, front-whole}
-use Rattle.basics.proofs.EdgeLaws.{build-append, all_build, filter-keeps, filter-drops, filter-back, front-stops}
+use Rattle.basics.proofs.ListLaws.{filter_all, front_all, front_whole}
+use Rattle.basics.proofs.EdgeLaws.{build_append, all_build, filter_keeps, filter_drops, filter_back, front_stops}
 use Rattle.rules.specs.declared.Base.{Base}
 use Rattle.rules.specs.declared.Chrom.{Chrom}
 use Rattle.rules.specs.Overlap.{lasts, live}
 use Rattle.queue.specs.declared.Ring.{Ring}
 use Rattle.queue.specs.Ring.{Cells, Sound, Fair, slot_at, place, nth, oldest, waiting}
 use Rattle.queue.specs.Deeds.{Clears, Skips, Leads, Packs, Packable, ends}
-use Rattle.queue.proofs.Places.{nth-put, nth-other, oldest-put, fair-put, place-zero}
-use Rattle.queue.proofs.Waiting.{moved, nothing-waits, waiting-cons, live_own, live-other}
-use Rattle.queue.proofs.Pushing.{oldest-more, fair-len}
+use Rattle.queue.proofs.Places.{nth_put, nth_other, oldest_put, fair_put, place_zero}
+use Rattle.queue.proofs.Waiting.{moved, nothing_waits, waiting_cons, live_own, live_other}
+use Rattle.queue.proofs.Pushing.{oldest_more, fair_len}
 
 -- ---- past what is dead at the front
 
@@ -30,37 +30,37 @@ pub record Skipping (q₀ q : Ring) (c : Cells) (from : ℕ) : Type 0 where
   pub chrom : q.chrom ≡ q₀.chrom
   pub same : back (λ r. not (ends from r)) (waiting q c) ≡ back (λ r. not (ends from r)) (waiting q₀ c)
 
-pub skipping-start : (q : Ring) (c : Cells) (from : ℕ) → Sound q → Skipping q q c from
-skipping-start q c from s = record { sound = s; room = refl; chrom = refl; same = refl }
+pub skipping_start : (q : Ring) (c : Cells) (from : ℕ) → Sound q → Skipping q q c from
+skipping_start q c from s = record { sound = s; room = refl; chrom = refl; same = refl }
 
 module _ (q₀ q : Ring) (c : Cells) (from : ℕ) (v : Skipping q₀ q c from) where
-  pub skipping-end : q.len ≡ 0 → Skips q₀ c from q
-  skipping-end h = record {
+  pub skipping_end : q.len ≡ 0 → Skips q₀ c from q
+  skipping_end h = record {
     sound = v.sound;
     room = v.room;
     chrom = v.chrom;
-    left = nothing-waits q c h ∙ sym (sym v.same ∙ rw (nothing-waits q c h));
+    left = nothing_waits q c h ∙ sym (sym v.same ∙ rw (nothing_waits q c h));
   }
 
   -- the test at the head is one of the first that waits
   module _ (m next : ℕ) (more : q.len ≡ suc m) (on : next ≡ place q.head q.room 1) where
     first : ends from (nth q c 0) ≡ lasts from (slot_at c q.head).stop
-    first = rw (place-zero q.head q.room v.sound.inside)
+    first = rw (place_zero q.head q.room v.sound.inside)
 
-    pub skipping-stop : lasts from (slot_at c q.head).stop ≡ true → Skips q₀ c from q
-    skipping-stop h = record {
+    pub skipping_stop : lasts from (slot_at c q.head).stop ≡ true → Skips q₀ c from q
+    skipping_stop h = record {
       sound = v.sound;
       room = v.room;
       chrom = v.chrom;
-      left = sym (sym v.same ∙ rw (waiting-cons q c m next v.sound more on, first, h));
+      left = sym (sym v.same ∙ rw (waiting_cons q c m next v.sound more on, first, h));
     }
 
-    pub skipping-next : lasts from (slot_at c q.head).stop ≡ false → next < q.room → Skipping q₀ (moved q next m) c from
-    skipping-next h l = record {
+    pub skipping_next : lasts from (slot_at c q.head).stop ≡ false → next < q.room → Skipping q₀ (moved q next m) c from
+    skipping_next h l = record {
       sound = record { inside = l; fits = omega arith; small = v.sound.small };
       room = v.room;
       chrom = v.chrom;
-      same = sym (sym v.same ∙ rw (waiting-cons q c m next v.sound more on, first, h));
+      same = sym (sym v.same ∙ rw (waiting_cons q c m next v.sound more on, first, h));
     }
 
 -- ---- how many stay where they are
@@ -78,21 +78,21 @@ module _ (q : Ring) (c : Cells) (from k : ℕ) (v : Leading q.head q.len q.room 
   unfolding waiting
   leading_end h =
       let e : k ≡ q.len = omega (arith, v.within) in
-      record { few = v.within; ahead = sym (rw (← e) (front-whole leads)) }
+      record { few = v.within; ahead = sym (rw (← e) (front_whole leads)) }
 
   -- one slot more, which stands at `at`
   module _ (at : ℕ) (more : k < q.len) (here : at ≡ place q.head q.room k) where
-    pub leading-next : lasts from (slot_at c at).stop ≡ true → Leading q.head q.len q.room c from (k + 1)
-    leading-next h = record { within = omega arith; each = below_more _ _ v.each (rw (← here) h) }
+    pub leading_next : lasts from (slot_at c at).stop ≡ true → Leading q.head q.len q.room c from (k + 1)
+    leading_next h = record { within = omega arith; each = below_more _ _ v.each (rw (← here) h) }
 
-    pub leading-stop : lasts from (slot_at c at).stop ≡ false → Leads q c from k
+    pub leading_stop : lasts from (slot_at c at).stop ≡ false → Leads q c from k
     unfolding waiting build
-    leading-stop h =
+    leading_stop h =
         let m : ℕ = q.len - suc k in
         let n : q.len ≡ k + suc m = omega arith in
         record {
           few = v.within;
-          ahead = sym (rw (n, build-append (nth q c) k (suc m) 0, zero-add k) (front-stops (nth q c k) (build (nth q c) m (suc k)) leads (rw (← here) h)));
+          ahead = sym (rw (n, build_append (nth q c) k (suc m) 0, zero-add k) (front_stops (nth q c k) (build (nth q c) m (suc k)) leads (rw (← here) h)));
         }
 
 -- ---- the rest, moved up
@@ -105,12 +105,12 @@ pub record Packing (q : Ring) (from : ℕ) (c₀ c : Cells) (kept k : ℕ) : Typ
   pub ahead : oldest kept q c ≡ filter (ends from) (oldest k q c₀)
   pub behind : (j : ℕ) → k ≤ j → j < q.len → nth q c j ≡ nth q c₀ j
 
-pub packing-start : (q : Ring) (from : ℕ) (c : Cells) (n : ℕ) → Packable q c from n → Packing q from c c n n
-packing-start q from c n p = record {
+pub packing_start : (q : Ring) (from : ℕ) (c : Cells) (n : ℕ) → Packable q c from n → Packing q from c c n n
+packing_start q from c n p = record {
   within = p.few;
   few = omega arith;
   fair = p.fair;
-  ahead = sym (filter-all p.ahead);
+  ahead = sym (filter_all p.ahead);
   behind = λ j a b. refl;
 }
 
@@ -120,32 +120,32 @@ module _ (q : Ring) (from : ℕ) (c₀ c : Cells) (kept k : ℕ) (v : Packing q 
     seen : ends from (nth q c₀ k) ≡ lasts from (slot_at c at).stop
     seen = sym (rw here (ap (ends from) (v.behind k (omega arith) more)))
 
-    pub packing-drop : lasts from (slot_at c at).stop ≡ false → Packing q from c₀ c kept (k + 1)
-    packing-drop h = record {
+    pub packing_drop : lasts from (slot_at c at).stop ≡ false → Packing q from c₀ c kept (k + 1)
+    packing_drop h = record {
       within = omega arith;
       few = omega arith;
       fair = v.fair;
-      ahead = v.ahead ∙ sym (rw (oldest-more q c₀ k) (filter-drops (ends from) (oldest k q c₀) (nth q c₀ k) (seen ∙ h)));
+      ahead = v.ahead ∙ sym (rw (oldest_more q c₀ k) (filter_drops (ends from) (oldest k q c₀) (nth q c₀ k) (seen ∙ h)));
       behind = λ j a b. v.behind j (omega arith) b;
     }
 
-    pub packing-keep : (to : ℕ) → to ≡ place q.head q.room kept → lasts from (slot_at c at).stop ≡ true → Packing q from c₀ (set c to (get_or c at [])) (kept + 1) (k + 1)
-    packing-keep to there h = record {
+    pub packing_keep : (to : ℕ) → to ≡ place q.head q.room kept → lasts from (slot_at c at).stop ≡ true → Packing q from c₀ (set c to (get_or c at [])) (kept + 1) (k + 1)
+    packing_keep to there h = record {
       within = omega arith;
       few = omega arith;
-      fair = fair-put q c to (get_or c at []) v.fair;
+      fair = fair_put q c to (get_or c at []) v.fair;
       ahead =
-          oldest-more q (set c to (get_or c at [])) kept
-          ∙ rw (oldest-put q c v.fair kept to (omega arith) there (get_or c at []) kept (omega arith), nth-put q c v.fair kept to (omega arith) there (get_or c at []), v.ahead, here, v.behind k (omega arith) more)
-          (sym (rw (oldest-more q c₀ k) (filter-keeps (ends from) (oldest k q c₀) (nth q c₀ k) (seen ∙ h))));
-      behind = λ j a b. nth-other q c v.fair kept to (omega arith) there (get_or c at []) j (omega arith) (λ e. omega arith) ∙ v.behind j (omega arith) b;
+          oldest_more q (set c to (get_or c at [])) kept
+          ∙ rw (oldest_put q c v.fair kept to (omega arith) there (get_or c at []) kept (omega arith), nth_put q c v.fair kept to (omega arith) there (get_or c at []), v.ahead, here, v.behind k (omega arith) more)
+          (sym (rw (oldest_more q c₀ k) (filter_keeps (ends from) (oldest k q c₀) (nth q c₀ k) (seen ∙ h))));
+      behind = λ j a b. nth_other q c v.fair kept to (omega arith) there (get_or c at []) j (omega arith) (λ e. omega arith) ∙ v.behind j (omega arith) b;
     }
 
-  pub packing-end : q.len ≤ k → Packs q c₀ from (moved q q.head kept) c
+  pub packing_end : q.len ≤ k → Packs q c₀ from (moved q q.head kept) c
   unfolding waiting
-  packing-end h =
+  packing_end h =
       let n : k ≡ q.len = omega arith in
-      record { fair = fair-len q c kept v.fair (omega arith); room = refl; chrom = refl; left = v.ahead ∙ rw n }
+      record { fair = fair_len q c kept v.fair (omega arith); room = refl; chrom = refl; left = v.ahead ∙ rw n }
 
 -- ---- the three together
 
@@ -154,25 +154,25 @@ abbrev named : ℕ → Chrom
 named n = record { 0 = n }
 
 module _ (q : Ring) (c : Cells) (b : Base) (f : Fair q c) where
-  pub clears-other : (q.chrom.0 ≡ b.chrom.0 → ⊥) → Clears q c b (record { head = 0; len = 0; room = q.room; chrom = b.chrom }) c
-  clears-other e = record {
+  pub clears_other : (q.chrom.0 ≡ b.chrom.0 → ⊥) → Clears q c b (record { head = 0; len = 0; room = q.room; chrom = b.chrom }) c
+  clears_other e = record {
     fair = record { sound = record { inside = omega arith; fits = omega arith; small = f.sound.small }; slots = f.slots };
     room = refl;
     chrom = refl;
-    left = nothing-waits _ c refl ∙ sym (live-other q c b e);
+    left = nothing_waits _ c refl ∙ sym (live_other q c b e);
   }
 
   module _ (led : Ring) (s : Skips q c b.start led) where
-    pub fair-led : Fair led c
-    fair-led = record { sound = s.sound; slots = f.slots ∙ sym s.room }
+    pub fair_led : Fair led c
+    fair_led = record { sound = s.sound; slots = f.slots ∙ sym s.room }
 
-    pub packable-led : (n : ℕ) → Leads led c b.start n → Packable led c b.start n
-    packable-led n l = record { fair = fair-led; few = l.few; ahead = rw l.ahead (front-all (ends b.start) (waiting led c)) }
+    pub packable_led : (n : ℕ) → Leads led c b.start n → Packable led c b.start n
+    packable_led n l = record { fair = fair_led; few = l.few; ahead = rw l.ahead (front_all (ends b.start) (waiting led c)) }
 
-    pub clears-own : (q' : Ring) (c' : Cells) → q.chrom.0 ≡ b.chrom.0 → Packs led c b.start q' c' → Clears q c b q' c'
-    clears-own q' c' e p = record {
+    pub clears_own : (q' : Ring) (c' : Cells) → q.chrom.0 ≡ b.chrom.0 → Packs led c b.start q' c' → Clears q c b q' c'
+    clears_own q' c' e p = record {
       fair = p.fair;
       room = p.room ∙ s.room;
       chrom = p.chrom ∙ s.chrom ∙ ap named e;
-      left = p.left ∙ rw s.left (filter-back (ends b.start) (waiting q c)) ∙ sym (live_own q c b e);
+      left = p.left ∙ rw s.left (filter_back (ends b.start) (waiting q c)) ∙ sym (live_own q c b e);
     }

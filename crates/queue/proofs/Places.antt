@@ -7,19 +7,19 @@ use native.Mathlib.Decide.{dec_lt}
 use lib.ListN.{set, length-set}
 use lib.Seq.{get_or-set_same, get_or-set_other}
 use borrow.Author.Tests.{lt-ltb, le-ltb}
-use Rattle.basics.proofs.BuildLaws.{build-same}
+use Rattle.basics.proofs.BuildLaws.{build_same}
 use Rattle.queue.specs.declared.Ring.{Ring}
-use Rattle.queue.specs.Ring.{Cells, Fair, recordOf, slotIn, place, nth, oldest}
+use Rattle.queue.specs.Ring.{Cells, Fair, record_of, slot_in, place, nth, oldest}
 
 -- ---- places
 
-pub place-low : (h n k : ℕ) → h + k < n → place h n k ≡ h + k
+pub place_low : (h n k : ℕ) → h + k < n → place h n k ≡ h + k
 unfolding place
-place-low h n k p = rw (lt-ltb (h + k) n p)
+place_low h n k p = rw (lt-ltb (h + k) n p)
 
-pub place-high : (h n k : ℕ) → n ≤ h + k → place h n k ≡ h + k - n
+pub place_high : (h n k : ℕ) → n ≤ h + k → place h n k ≡ h + k - n
 unfolding place
-place-high h n k p = rw (le-ltb (h + k) n p)
+place_high h n k p = rw (le-ltb (h + k) n p)
 
 -- the two cases, to be gone through
 data Placed (h n k p : ℕ) : Type 0 where
@@ -30,24 +30,24 @@ placed : (h n k : ℕ) → Placed h n k (place h n k)
 placed h n k = go (dec_lt (h + k) n)
   where
     go : Dec (h + k < n) → Placed h n k (place h n k)
-    go (yes p) = low p (place-low h n k p)
-    go (no p) = high (omega arith) (place-high h n k (omega arith))
+    go (yes p) = low p (place_low h n k p)
+    go (no p) = high (omega arith) (place_high h n k (omega arith))
 
 module _ (h n : ℕ) (hn : h < n) where
-  pub place-lt : (k : ℕ) → k ≤ n → place h n k < n
-  place-lt k kn = go (placed h n k)
+  pub place_lt : (k : ℕ) → k ≤ n → place h n k < n
+  place_lt k kn = go (placed h n k)
     where
       go : Placed h n k (place h n k) → place h n k < n
       go (low a e) = omega arith
       go (high a e) = omega arith
 
   -- the head's own place
-  pub place-zero : place h n 0 ≡ h
-  place-zero = omega (arith, place-low h n 0 (omega arith))
+  pub place_zero : place h n 0 ≡ h
+  place_zero = omega (arith, place_low h n 0 (omega arith))
 
   -- no two numbers stand at one place
-  pub place-apart : (j k : ℕ) → j < n → k < n → place h n j ≡ place h n k → j ≡ k
-  place-apart j k jn kn same = go (placed h n j) (placed h n k)
+  pub place_apart : (j k : ℕ) → j < n → k < n → place h n j ≡ place h n k → j ≡ k
+  place_apart j k jn kn same = go (placed h n j) (placed h n k)
     where
       go : Placed h n j (place h n j) → Placed h n k (place h n k) → j ≡ k
       go (low a d) (low b e) = omega arith
@@ -56,8 +56,8 @@ module _ (h n : ℕ) (hn : h < n) where
       go (high a d) (high b e) = omega arith
 
   -- counted from one place on
-  pub place-next : (k : ℕ) → k < n → place (place h n 1) n k ≡ place h n (suc k)
-  place-next k kn = go (placed h n 1) (placed (place h n 1) n k) (placed h n (suc k))
+  pub place_next : (k : ℕ) → k < n → place (place h n 1) n k ≡ place h n (suc k)
+  place_next k kn = go (placed h n 1) (placed (place h n 1) n k) (placed h n (suc k))
     where
       go : Placed h n 1 (place h n 1) → Placed (place h n 1) n k (place (place h n 1) n k) → Placed h n (suc k) (place h n (suc k)) → place (place h n 1) n k ≡ place h n (suc k)
       go (low a d) (low b e) (low c f) = omega arith
@@ -73,19 +73,19 @@ module _ (h n : ℕ) (hn : h < n) where
 
 -- one of the numbers of a ring, and where it stands
 module _ (q : Ring) (c : Cells) (f : Fair q c) (k at : ℕ) (kn : k < q.room) (here : at ≡ place q.head q.room k) (x : List ℕ) where
-  pub nth-put : nth q (set c at x) k ≡ recordOf q.chrom (slotIn x)
-  nth-put =
-      let i : at < q.room = rw here (place-lt q.head q.room (omega arith) k (omega arith)) in
+  pub nth_put : nth q (set c at x) k ≡ record_of q.chrom (slot_in x)
+  nth_put =
+      let i : at < q.room = rw here (place_lt q.head q.room (omega arith) k (omega arith)) in
       rw (← here, get_or-set_same c at x [] (omega arith))
 
-  pub nth-other : (j : ℕ) → j < q.room → (j ≡ k → ⊥) → nth q (set c at x) j ≡ nth q c j
-  nth-other j jn other =
-      rw (get_or-set_other c at (place q.head q.room j) x [] (λ e. other (place-apart q.head q.room (omega arith) j k jn kn (e ∙ here))))
+  pub nth_other : (j : ℕ) → j < q.room → (j ≡ k → ⊥) → nth q (set c at x) j ≡ nth q c j
+  nth_other j jn other =
+      rw (get_or-set_other c at (place q.head q.room j) x [] (λ e. other (place_apart q.head q.room (omega arith) j k jn kn (e ∙ here))))
 
   -- those ahead of it stay
-  pub oldest-put : (n : ℕ) → n ≤ k → oldest n q (set c at x) ≡ oldest n q c
-  oldest-put n h = build-same (nth q c) (nth q (set c at x)) n 0 (λ j a b. nth-other j (omega arith) (λ e. omega arith))
+  pub oldest_put : (n : ℕ) → n ≤ k → oldest n q (set c at x) ≡ oldest n q c
+  oldest_put n h = build_same (nth q c) (nth q (set c at x)) n 0 (λ j a b. nth_other j (omega arith) (λ e. omega arith))
 
 -- the length stays
-pub fair-put : (q : Ring) (c : Cells) (at : ℕ) (x : List ℕ) → Fair q c → Fair q (set c at x)
-fair-put q c at x f = record { sound = f.sound; slots = simp length-set f.slots }
+pub fair_put : (q : Ring) (c : Cells) (at : ℕ) (x : List ℕ) → Fair q c → Fair q (set c at x)
+fair_put q c at x f = record { sound = f.sound; slots = simp length-set f.slots }

@@ -6,44 +6,44 @@ use native.Mathlib.Omega.{arith}
 use native.Mathlib.Nat.{zero-add}
 use native.Mathlib.Numerals.{add-one}
 use lib.ListN.{set}
-use Rattle.basics.proofs.BuildLaws.{build-snoc}
+use Rattle.basics.proofs.BuildLaws.{build_snoc}
 use Rattle.queue.specs.declared.Ring.{Ring}
 use Rattle.queue.specs.declared.Slot.{Slot}
 use Rattle.queue.specs.declared.Pushed.TheVariants.{Done, Full}
 use Rattle.queue.specs.Ring.{Cells, Fair, place, nth, oldest, waiting}
 use Rattle.queue.specs.Deeds.{Queues, Pushes}
-use Rattle.queue.proofs.Places.{nth-put, oldest-put, fair-put}
-use Rattle.queue.proofs.Waiting.{length-waiting, moved}
+use Rattle.queue.proofs.Places.{nth_put, oldest_put, fair_put}
+use Rattle.queue.proofs.Waiting.{length_waiting, moved}
 
 -- the first of a ring, and one more
-pub oldest-more : (q : Ring) (c : Cells) (k : ℕ) → oldest (k + 1) q c ≡ oldest k q c ++ (nth q c k ∷ [])
-oldest-more q c k = rw (add-one k, build-snoc (nth q c) k 0, zero-add k)
+pub oldest_more : (q : Ring) (c : Cells) (k : ℕ) → oldest (k + 1) q c ≡ oldest k q c ++ (nth q c k ∷ [])
+oldest_more q c k = rw (add-one k, build_snoc (nth q c) k 0, zero-add k)
 
 -- fewer, or more up to the room
-pub fair-len : (q : Ring) (c : Cells) (m : ℕ) → Fair q c → m ≤ q.room → Fair (moved q q.head m) c
-fair-len q c m f h = record { sound = record { inside = f.sound.inside; fits = h; small = f.sound.small }; slots = f.slots }
+pub fair_len : (q : Ring) (c : Cells) (m : ℕ) → Fair q c → m ≤ q.room → Fair (moved q q.head m) c
+fair_len q c m f h = record { sound = record { inside = f.sound.inside; fits = h; small = f.sound.small }; slots = f.slots }
 
 -- a slot's four numbers
 abbrev pub numbers : Slot → List ℕ
 numbers x = x.stream.0 ∷ x.row ∷ x.start ∷ x.stop ∷ []
 
 module _ (q : Ring) (c : Cells) (x : Slot) (f : Fair q c) where
-  pub push-done : (at : ℕ) → (q.len ≡ q.room → ⊥) → at ≡ place q.head q.room q.len → Pushes q c x (Done (moved q q.head (q.len + 1))) (set c at (numbers x))
+  pub push_done : (at : ℕ) → (q.len ≡ q.room → ⊥) → at ≡ place q.head q.room q.len → Pushes q c x (Done (moved q q.head (q.len + 1))) (set c at (numbers x))
   unfolding waiting
-  push-done at left here = record { done = λ q' e. rw (← same q' e) queues; full = λ e. never e }
+  push_done at left here = record { done = λ q' e. rw (← same q' e) queues; full = λ e. never e }
     where
       less : q.len < q.room
       less = omega arith
 
       queues : Queues q c x (moved q q.head (q.len + 1)) (set c at (numbers x))
       queues = record {
-        fair = fair-len q (set c at (numbers x)) (q.len + 1) (fair-put q c at (numbers x) f) (omega arith);
+        fair = fair_len q (set c at (numbers x)) (q.len + 1) (fair_put q c at (numbers x) f) (omega arith);
         room = refl;
         chrom = refl;
-        fewer = rw (length-waiting q c) less;
+        fewer = rw (length_waiting q c) less;
         more =
-            oldest-more q (set c at (numbers x)) q.len
-            ∙ rw (oldest-put q c f q.len at less here (numbers x) q.len (omega arith), nth-put q c f q.len at less here (numbers x));
+            oldest_more q (set c at (numbers x)) q.len
+            ∙ rw (oldest_put q c f q.len at less here (numbers x) q.len (omega arith), nth_put q c f q.len at less here (numbers x));
       }
 
       same : (q' : Ring) → Done (moved q q.head (q.len + 1)) ≡ Done q' → moved q q.head (q.len + 1) ≡ q'
@@ -52,8 +52,8 @@ module _ (q : Ring) (c : Cells) (x : Slot) (f : Fair q c) where
       never : {P : Type 0} → Done (moved q q.head (q.len + 1)) ≡ Full → P
       never e = let z : ◌≡◌ {A = ℕ} 0 1 = cc in absurd (omega arith)
 
-  pub push-full : q.len ≡ q.room → Pushes q c x Full c
-  push-full e = record { done = λ q' h. never q' h; full = λ h. record { full = length-waiting q c ∙ e; same = refl } }
+  pub push_full : q.len ≡ q.room → Pushes q c x Full c
+  push_full e = record { done = λ q' h. never q' h; full = λ h. record { full = length_waiting q c ∙ e; same = refl } }
     where
       never : (q' : Ring) {P : Type 0} → Full ≡ Done q' → P
       never q' h = let z : ◌≡◌ {A = ℕ} 0 1 = cc in absurd (omega arith)

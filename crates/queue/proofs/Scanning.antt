@@ -9,83 +9,83 @@ use lib.Seq.{set_at, drop-cons}
 use lib.Dec.{eqb, ltb}
 use Rattle.basics.specs.Build.{build}
 use Rattle.basics.specs.Lists.{filter, All}
-use Rattle.basics.proofs.BoolLaws.{and_comm, and_left, and-also}
-use Rattle.basics.proofs.ListLaws.{filter-cong, all_map}
-use Rattle.basics.proofs.EdgeLaws.{filter-keeps, filter-drops}
+use Rattle.basics.proofs.BoolLaws.{and_comm, and_left, and_also}
+use Rattle.basics.proofs.ListLaws.{filter_cong, all_map}
+use Rattle.basics.proofs.EdgeLaws.{filter_keeps, filter_drops}
 use Rattle.rules.specs.declared.Base.{Base}
 use Rattle.rules.specs.declared.Chrom.{Chrom}
 use Rattle.rules.specs.Rows.{Record}
 use Rattle.rules.specs.Overlap.{reaches, live, overlaps}
 use Rattle.queue.specs.declared.Ring.{Ring}
 use Rattle.queue.specs.Ring.{Cells, slot_at, place, nth, oldest, waiting}
-use Rattle.queue.specs.Deeds.{Scans, written, answerRow}
-use Rattle.queue.proofs.Pushing.{oldest-more}
+use Rattle.queue.specs.Deeds.{Scans, written, answer_row}
+use Rattle.queue.proofs.Pushing.{oldest_more}
 
 -- a record that is written
 abbrev pub reached : ℕ → Record → Bool
 reached until r = reaches until r.it.start
 
 -- of a record that is live for a base, only the start is to be tested
-overlaps-live : (b : Base) (r : Record) → live b r ≡ true → overlaps b r ≡ reached b.stop r
-overlaps-live b r h =
+overlaps_live : (b : Base) (r : Record) → live b r ≡ true → overlaps b r ≡ reached b.stop r
+overlaps_live b r h =
     let own : eqb r.it.chrom.0 b.chrom.0 ≡ true = and_left (eqb r.it.chrom.0 b.chrom.0) (ltb b.start r.it.stop) h in
-    let late : ltb b.start r.it.stop ≡ true = and-also (eqb r.it.chrom.0 b.chrom.0) (ltb b.start r.it.stop) h in
+    let late : ltb b.start r.it.stop ≡ true = and_also (eqb r.it.chrom.0 b.chrom.0) (ltb b.start r.it.stop) h in
     rw (own, late) (and_comm (ltb r.it.start b.stop) true)
 
 -- one more answer behind those that were written
-written-more : {A : Type 0} (part : Record → A) (d : A) (hits : List Record) (x : Record) (old out : List A) (n : ℕ) → n ≡ length hits → n < length old → out ≡ written part hits old →
+written_more : {A : Type 0} (part : Record → A) (d : A) (hits : List Record) (x : Record) (old out : List A) (n : ℕ) → n ≡ length hits → n < length old → out ≡ written part hits old →
     set out n (part x) ≡ written part (hits ++ (x ∷ [])) old
-written-more part d hits x old out n e h o =
+written_more part d hits x old out n e h o =
     let m : length (hits ++ (x ∷ [])) ≡ suc n = length-append hits (x ∷ []) ∙ omega arith in
     rw (o, m, ← e, drop-cons old n d h, set_at (map part hits) (get_or old n d) (drop (suc n) old) (part x) n (length-map hits part ∙ sym e), map-append, append_assoc)
 
 -- a ring by its numbers, on a chromosome
-abbrev ringOn : ℕ → ℕ → ℕ → Chrom → Ring
-ringOn head len room chrom = record { head = head; len = len; room = room; chrom = chrom }
+abbrev ring_on : ℕ → ℕ → ℕ → Chrom → Ring
+ring_on head len room chrom = record { head = head; len = len; room = room; chrom = chrom }
 
 -- the first k were gone through, and n of them were written, whatever the chromosome
 pub record Scanning (head len room : ℕ) (c : Cells) (until : ℕ) (l₀ l : List (List ℕ)) (n k : ℕ) : Type 0 where
   pub within : k ≤ len
   pub few : n ≤ k
   pub answers : length l ≡ length l₀
-  pub scans : (chrom : Chrom) → Scans (filter (reached until) (oldest k (ringOn head len room chrom) c)) l₀ n l
+  pub scans : (chrom : Chrom) → Scans (filter (reached until) (oldest k (ring_on head len room chrom) c)) l₀ n l
 
-pub scanning-start : (head len room : ℕ) (c : Cells) (until : ℕ) (l : List (List ℕ)) → Scanning head len room c until l l 0 0
+pub scanning_start : (head len room : ℕ) (c : Cells) (until : ℕ) (l : List (List ℕ)) → Scanning head len room c until l l 0 0
 unfolding build
-scanning-start head len room c until l = record { within = omega arith; few = omega arith; answers = refl; scans = λ chrom. record { count = refl; answers = refl } }
+scanning_start head len room c until l = record { within = omega arith; few = omega arith; answers = refl; scans = λ chrom. record { count = refl; answers = refl } }
 
 -- one slot more, which stands at `at`
 module _ (head len room : ℕ) (c : Cells) (until : ℕ) (l₀ l : List (List ℕ)) (n k : ℕ) (v : Scanning head len room c until l₀ l n k) (more : k < len)
     (at : ℕ) (here : at ≡ place head room k) where
-  pub scanning-pass : reaches until (slot_at c at).start ≡ false → Scanning head len room c until l₀ l n (k + 1)
-  scanning-pass h = record {
+  pub scanning_pass : reaches until (slot_at c at).start ≡ false → Scanning head len room c until l₀ l n (k + 1)
+  scanning_pass h = record {
     within = omega arith;
     few = omega arith;
     answers = v.answers;
     scans = λ chrom.
-        let q = ringOn head len room chrom in
-        rw (oldest-more q c k, filter-drops (reached until) (oldest k q c) (nth q c k) (rw (← here) h)) (v.scans chrom);
+        let q = ring_on head len room chrom in
+        rw (oldest_more q c k, filter_drops (reached until) (oldest k q c) (nth q c k) (rw (← here) h)) (v.scans chrom);
   }
 
-  pub scanning-put : reaches until (slot_at c at).start ≡ true → n < length l₀ →
+  pub scanning_put : reaches until (slot_at c at).start ≡ true → n < length l₀ →
       Scanning head len room c until l₀ (set l n ((slot_at c at).stream.0 ∷ (slot_at c at).row ∷ [])) (n + 1) (k + 1)
-  scanning-put h few = record {
+  scanning_put h few = record {
     within = omega arith;
     few = omega arith;
     answers = simp length-set v.answers;
     scans = λ chrom.
-        let q = ringOn head len room chrom in
+        let q = ring_on head len room chrom in
         let hits = filter (reached until) (oldest k q c) in
         let s = v.scans chrom in
-        rw (oldest-more q c k, filter-keeps (reached until) (oldest k q c) (nth q c k) (rw (← here) h), here) (record {
+        rw (oldest_more q c k, filter_keeps (reached until) (oldest k q c) (nth q c k) (rw (← here) h), here) (record {
           count = rw (length-append hits (nth q c k ∷ [])) (omega arith);
-          answers = written-more answerRow [] hits (nth q c k) l₀ l n s.count few s.answers;
+          answers = written_more answer_row [] hits (nth q c k) l₀ l n s.count few s.answers;
         });
   }
 
-pub scanning-end : (q : Ring) (c : Cells) (b : Base) (l₀ l : List (List ℕ)) (n k : ℕ) → Scanning q.head q.len q.room c b.stop l₀ l n k → q.len ≤ k →
+pub scanning_end : (q : Ring) (c : Cells) (b : Base) (l₀ l : List (List ℕ)) (n k : ℕ) → Scanning q.head q.len q.room c b.stop l₀ l n k → q.len ≤ k →
     All (λ r. live b r ≡ true) (waiting q c) → Scans (filter (overlaps b) (waiting q c)) l₀ n l
 unfolding waiting
-scanning-end q c b l₀ l n k v h all =
+scanning_end q c b l₀ l n k v h all =
     let e : q.len ≡ k = omega arith in
-    rw (filter-cong {p = overlaps b} {q = reached b.stop} (all_map (overlaps-live b) all), e) (v.scans q.chrom)
+    rw (filter_cong {p = overlaps b} {q = reached b.stop} (all_map (overlaps_live b) all), e) (v.scans q.chrom)

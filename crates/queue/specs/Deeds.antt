@@ -1,7 +1,7 @@
 -- What each operation says: equations on the list of the records that wait, and nothing of where these stand.
 use Rattle.std.specs.Prelude.{◌≡◌, Bool, true, not, List, [], ◌∷◌, ◌++◌, map, ℕ, ◌≤◌, ◌<◌, length, drop, ltb}
 use Rattle.std.proofs.Math.Option.{Option, none, some}
-use Rattle.basics.specs.Lists.{filter, front, back, head?, All}
+use Rattle.basics.specs.Lists.{filter, front, back, first_one, All}
 use Rattle.rules.specs.declared.Base.{Base}
 use Rattle.rules.specs.Rows.{Record}
 use Rattle.rules.specs.Overlap.{lasts, live}
@@ -11,7 +11,7 @@ use Rattle.queue.specs.declared.Pushed.{Pushed}
 use Rattle.queue.specs.declared.Pushed.TheVariants.{Done, Full}
 use Rattle.queue.specs.declared.Front.{Front}
 use Rattle.queue.specs.declared.Front.TheVariants.{Nothing, At}
-use Rattle.queue.specs.Ring.{Cells, Fair, Sound, recordOf, oldest, waiting}
+use Rattle.queue.specs.Ring.{Cells, Fair, Sound, record_of, oldest, waiting}
 
 -- ---- clearing
 
@@ -31,7 +31,7 @@ pub record Queues (q : Ring) (c : Cells) (x : Slot) (q' : Ring) (c' : Cells) : T
   pub room : q'.room ≡ q.room
   pub chrom : q'.chrom ≡ q.chrom
   pub fewer : length (waiting q c) < q.room
-  pub more : waiting q' c' ≡ waiting q c ++ (recordOf q.chrom x ∷ [])
+  pub more : waiting q' c' ≡ waiting q c ++ (record_of q.chrom x ∷ [])
 
 -- "9 if Q live records are queued already": the slots are as they were
 pub record Refuses (q : Ring) (c c' : Cells) : Type 0 where
@@ -55,8 +55,8 @@ abbrev pub written : {A : Type 0} → (Record → A) → List Record → List A 
 written part hits old = map part hits ++ drop (length hits) old
 
 -- "stream and row number"
-abbrev pub answerRow : Record → List ℕ
-answerRow r = r.stream.0 ∷ r.row ∷ []
+abbrev pub answer_row : Record → List ℕ
+answer_row r = r.stream.0 ∷ r.row ∷ []
 
 -- what a scan asks: answer rows for all that can wait, and that the queue was cleared for the base
 pub record Scannable (q : Ring) (c : Cells) (b : Base) (l : List (List ℕ)) : Type 0 where
@@ -67,18 +67,18 @@ pub record Scannable (q : Ring) (c : Cells) (b : Base) (l : List (List ℕ)) : T
 -- the count of the hits, and the answer rows after it
 pub record Scans (hits : List Record) (l : List (List ℕ)) (n : ℕ) (l' : List (List ℕ)) : Type 0 where
   pub count : n ≡ length hits
-  pub answers : l' ≡ written answerRow hits l
+  pub answers : l' ≡ written answer_row hits l
 
 -- ---- the first that waits
 
 -- where a record starts
-abbrev pub frontOf : Option Record → Front
-frontOf none = Nothing
-frontOf (some r) = At r.it.start
+abbrev pub front_of : Option Record → Front
+front_of none = Nothing
+front_of (some r) = At r.it.start
 
 -- of the first that waits
 pub record Fronts (q : Ring) (c : Cells) (r : Front) : Type 0 where
-  pub first : r ≡ frontOf (head? (waiting q c))
+  pub first : r ≡ front_of (first_one (waiting q c))
 
 -- ---- inside of clearing, on the ring's own chromosome
 

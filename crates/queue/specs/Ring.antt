@@ -11,16 +11,16 @@ abbrev pub Cells : Type 0
 Cells = List (List ℕ)
 
 -- a slot's record, on a chromosome
-abbrev pub recordOf : Chrom → Slot → Record
-recordOf chrom x = record { stream = x.stream; row = x.row; it = record { chrom = chrom; start = x.start; stop = x.stop } }
+abbrev pub record_of : Chrom → Slot → Record
+record_of chrom x = record { stream = x.stream; row = x.row; it = record { chrom = chrom; start = x.start; stop = x.stop } }
 
 -- the slot that four numbers are
-abbrev pub slotIn : List ℕ → Slot
-slotIn x = record { stream = record { 0 = get_or x 0 0 }; row = get_or x 1 0; start = get_or x 2 0; stop = get_or x 3 0 }
+abbrev pub slot_in : List ℕ → Slot
+slot_in x = record { stream = record { 0 = get_or x 0 0 }; row = get_or x 1 0; start = get_or x 2 0; stop = get_or x 3 0 }
 
 -- the slot at place i
 abbrev pub slot_at : Cells → ℕ → Slot
-slot_at c i = slotIn (get_or c i [])
+slot_at c i = slot_in (get_or c i [])
 
 -- where number k of a ring stands, counted from its head: behind the last place comes the first
 unfoldable pub place : ℕ → ℕ → ℕ → ℕ
@@ -28,7 +28,7 @@ place head room k = cond (ltb (head + k) room) (head + k) (head + k - room)
 
 -- number k of a ring
 abbrev pub nth : Ring → Cells → ℕ → Record
-nth q c k = recordOf q.chrom (slot_at c (place q.head q.room k))
+nth q c k = record_of q.chrom (slot_at c (place q.head q.room k))
 
 -- the first n of a ring
 abbrev pub oldest : ℕ → Ring → Cells → List Record

@@ -5,22 +5,22 @@ use mathlib.Core.List.{List}
 use native.Mathlib.Omega.{arith}
 use lib.ListN.{length, get_or}
 use Rattle.basics.specs.Build.{build}
-use Rattle.basics.proofs.BuildLaws.{build-front, build-none}
+use Rattle.basics.proofs.BuildLaws.{build_front, build_none}
 use Rattle.lines.specs.declared.Put.{Put}
 use Rattle.lines.specs.declared.Put.TheVariants.{At, Full}
 use Rattle.lines.specs.declared.Laid.{Laid}
 use Rattle.lines.specs.declared.Laid.TheVariants.{Whole, Part}
-use Rattle.lines.specs.Lines.{lineR}
+use Rattle.lines.specs.Lines.{line_r}
 use Rattle.lines.specs.Put.{Puts}
 use Rattle.lines.specs.Laid.{Lays}
-use Rattle.lines.proofs.Putting.{puts-length, puts-inside}
-use Rattle.lines.proofs.LaidLaws.{lays-none, lays_more, lays-stop}
+use Rattle.lines.proofs.Putting.{puts_length, puts_inside}
+use Rattle.lines.proofs.LaidLaws.{lays_none, lays_more, lays_stop}
 use Rattle.replies.specs.Lines.{row_line}
 use Rattle.replies.specs.Source.{Source, line_at, row_lines}
 
 -- a record's line, by the values that were read
 pub record-put : {old new : List ℕ} {at first begins ends : ℕ} {r : Put} (start stop from : List ℕ) (stream row : ℕ) → first ≡ get_or from stream 0 → begins ≡ get_or start (first + row) 0 → ends ≡ get_or stop (first + row) 0
-    → Puts old at (lineR stream row begins ends) r new → Puts old at (row_line start stop from stream row) r new
+    → Puts old at (line_r stream row begins ends) r new → Puts old at (row_line start stop from stream row) r new
 record-put start stop from stream row f b e p = rw (← f, ← b, ← e) p
 
 -- i lines stand, and the next goes to a place
@@ -36,18 +36,18 @@ writing_start t n old at h =
     record { few = omega arith; kept = refl; inside = h; left = λ w. rw e at w }
 
 module _ {t : Source} {n : ℕ} {old : List ℕ} {at : ℕ} {out : List ℕ} {place i : ℕ} (w : Writing t n old at out place i) where
-  pub writing-line : {p : ℕ} {new : List ℕ} → i < n → Puts out place (line_at t i) (At p) new → Writing t n old at new p (i + 1)
-  writing-line {p} {new} h v = record {
+  pub writing_line : {p : ℕ} {new : List ℕ} → i < n → Puts out place (line_at t i) (At p) new → Writing t n old at new p (i + 1)
+  writing_line {p} {new} h v = record {
     few = omega arith;
-    kept = puts-length (At p) v ∙ w.kept;
-    inside = puts-inside v;
-    left = λ u. w.left (rw (build-front (line_at t) n i h) (lays_more (build (line_at t) (n - (i + 1)) (i + 1)) v u));
+    kept = puts_length (At p) v ∙ w.kept;
+    inside = puts_inside v;
+    left = λ u. w.left (rw (build_front (line_at t) n i h) (lays_more (build (line_at t) (n - (i + 1)) (i + 1)) v u));
   }
 
   -- one that doesn't fit
-  pub writing-full : {new : List ℕ} → i < n → Puts out place (line_at t i) Full new → Lays old at (row_lines t n) (Part place) new
-  writing-full h v =
-      w.left (rw (build-front (line_at t) n i h) (lays-stop (build (line_at t) (n - (i + 1)) (i + 1)) w.inside v))
+  pub writing_full : {new : List ℕ} → i < n → Puts out place (line_at t i) Full new → Lays old at (row_lines t n) (Part place) new
+  writing_full h v =
+      w.left (rw (build_front (line_at t) n i h) (lays_stop (build (line_at t) (n - (i + 1)) (i + 1)) w.inside v))
 
-  pub writing-done : n ≤ i → Lays old at (row_lines t n) (Whole place) out
-  writing-done h = w.left (rw (build-none (line_at t) n i h) (lays-none out place w.inside))
+  pub writing_done : n ≤ i → Lays old at (row_lines t n) (Whole place) out
+  writing_done h = w.left (rw (build_none (line_at t) n i h) (lays_none out place w.inside))

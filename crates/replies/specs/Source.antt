@@ -5,8 +5,8 @@ use Rattle.rules.specs.declared.Base.{Base}
 use Rattle.rules.specs.declared.Offer.{Offer}
 use Rattle.rules.specs.declared.Answer.{Answer}
 use Rattle.rules.specs.declared.Answer.TheVariants.{Found, Refused, Ended}
-use Rattle.rules.specs.Numbers.{refusalNumber, endNumber, endValues}
-use Rattle.lines.specs.Lines.{lineB, lineX, lineE}
+use Rattle.rules.specs.Numbers.{refusal_number, end_number, end_values}
+use Rattle.lines.specs.Lines.{line_b, line_x, line_e}
 use Rattle.replies.specs.Lines.{row_line}
 
 -- the lent columns, where each stream's rows begin in them, and the answer rows
@@ -27,13 +27,13 @@ line_at t k = row_line t.start t.stop t.from (get_or (get_or t.answers k []) 0 0
 abbrev pub row_lines : Source → ℕ → List (List ℕ)
 row_lines t n = build (line_at t) n 0
 
-abbrev pub foundLines : Source → List ℕ → Base → ℕ → List (List ℕ)
-foundLines t name b n = lineB name b.start b.stop n ∷ row_lines t n
+abbrev pub found_lines : Source → List ℕ → Base → ℕ → List (List ℕ)
+found_lines t name b n = line_b name b.start b.stop n ∷ row_lines t n
 
-abbrev pub answerLines : Source → List ℕ → ℕ → Base → Answer → List (List ℕ)
-answerLines t name row b (Found n o) = foundLines t name b n
-answerLines t name row b (Refused x) = lineX (refusalNumber x) row ∷ []
-answerLines t name row b (Ended e) = lineE (endNumber e) row (endValues e) ∷ []
+abbrev pub answer_lines : Source → List ℕ → ℕ → Base → Answer → List (List ℕ)
+answer_lines t name row b (Found n o) = found_lines t name b n
+answer_lines t name row b (Refused x) = line_x (refusal_number x) row ∷ []
+answer_lines t name row b (Ended e) = line_e (end_number e) row (end_values e) ∷ []
 
 -- n answer rows are lent
 abbrev pub Holds : Source → ℕ → Type 0

@@ -1,14 +1,14 @@
 // A base is given to a run, and its lines are written to a lent buffer.
 ghost use Rattle.std.specs.Prelude.{◌≡◌, [], ◌∷◌, ◌+◌, ◌≤◌, length, get_or};
-ghost use Rattle.rules.specs.Numbers.{endNumber, endValues};
+ghost use Rattle.rules.specs.Numbers.{end_number, end_values};
 ghost use Rattle.heads.specs.View.{cols};
-ghost use Rattle.lines.specs.Lines.{lineE};
+ghost use Rattle.lines.specs.Lines.{line_e};
 ghost use Rattle.lines.specs.Put.{Puts};
 ghost use Rattle.lines.specs.Laid.{Lays};
 ghost use Rattle.pulls.specs.Pulls.{lent};
 ghost use Rattle.replies.specs.Lines.{row_line};
 ghost use Rattle.replies.specs.List.{Lists};
-ghost use Rattle.replies.specs.Source.{source, row_lines, foundLines, answerLines, Holds, Backs};
+ghost use Rattle.replies.specs.Source.{source, row_lines, found_lines, answer_lines, Holds, Backs};
 
 use lines::{Laid, Put};
 use rules::{Answer, Base, End};
@@ -108,7 +108,7 @@ fn put_found(
 ) -> Laid
     requires { (at ≤ length out.old) × Holds (source start.now stop.now from.now answers.now) n }
     ensures { Lays out.old at
-        (foundLines (source start.now stop.now from.now answers.now) name.now base n) result out.new }
+        (found_lines (source start.now stop.now from.now answers.now) name.now base n) result out.new }
 {
     let put = lines::put_b(out, at, name, base.start, base.stop, n as u64);
     match put {
@@ -120,7 +120,7 @@ fn put_found(
 // The line of an end: its number, the base's row, and for 7 and 8 the record's stream and row.
 fn put_end(out: &mut [u8], at: usize, e: End, row: u64) -> Put
     requires { at ≤ length out.old }
-    ensures { Puts out.old at (lineE (endNumber e) row (endValues e)) result out.new }
+    ensures { Puts out.old at (line_e (end_number e) row (end_values e)) result out.new }
 {
     let number = measures::end_number(e);
     match e {
@@ -146,7 +146,7 @@ fn put_answer(
 ) -> Laid
     requires { Backs (source start.now stop.now from.now answers.now) answer }
     ensures { Lays out.old at
-        (answerLines (source start.now stop.now from.now answers.now) name.now row base answer) result out.new }
+        (answer_lines (source start.now stop.now from.now answers.now) name.now row base answer) result out.new }
 {
     if out.len() < at {
         return Laid::Part(at);

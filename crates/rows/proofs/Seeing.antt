@@ -8,32 +8,32 @@ use native.Mathlib.Numerals.{add-one}
 use lib.ListN.{length, get_or, take, drop, length-drop, length-append, take-append-drop}
 use lib.Seq.{take-suc, take-take, get_or-drop, drop-drop, length-take-le}
 use Rattle.fields.specs.Names.{part, number_in}
-use Rattle.fields.specs.Scan.{front, inField, field_at, FieldTo}
-use Rattle.fields.proofs.Scan.{front-append, front-prefix, front-take, front-front}
+use Rattle.fields.specs.Scan.{front, in_field, field_at, FieldTo}
+use Rattle.fields.proofs.Scan.{front_append, front_prefix, front_take, front_front}
 use Rattle.rows.specs.Read.{Knows, Names}
 use Rattle.rows.specs.declared.Seen.{Seen}
 use Rattle.rows.specs.declared.Name.{Name}
 
 -- one byte more agrees
-pub agree-next : (text : List ℕ) (a b i : ℕ) → take i (drop a text) ≡ take i (drop b text) → get_or text (a + i) 0 ≡ get_or text (b + i) 0 → a + i < length text → b + i < length text →
+pub agree_next : (text : List ℕ) (a b i : ℕ) → take i (drop a text) ≡ take i (drop b text) → get_or text (a + i) 0 ≡ get_or text (b + i) 0 → a + i < length text → b + i < length text →
     take (i + 1) (drop a text) ≡ take (i + 1) (drop b text)
-agree-next text a b i e q h k =
+agree_next text a b i e q h k =
     rw (add-one, take-suc (drop a text) i 0 (omega (arith, length-drop a text)), take-suc (drop b text) i 0 (omega (arith, length-drop b text)), get_or-drop a text i 0, get_or-drop b text i 0, e, q)
 
 -- a field as a part of the text
 pub part_field : {text : List ℕ} {at a : ℕ} → FieldTo text at a → part at a text ≡ field_at text at
 part_field {text} {at} {a} f =
     let e : a - at ≡ length (field_at text at) = omega (arith, f.ends) in
-    rw e (front-take inField (drop at text))
+    rw e (front_take in_field (drop at text))
 
 -- a name looked up by its bytes
-pub names-found : {text : List ℕ} {at a : ℕ} (ns : List (List ℕ)) → FieldTo text at a → (k : ℕ) → k ≡ 0 + number_in ns (part at a text) → Names text ns at (record { to = a; chrom = k })
-names-found ns f k e = record { field = f; number = e ∙ rw (zero-add, part_field f) }
+pub names_found : {text : List ℕ} {at a : ℕ} (ns : List (List ℕ)) → FieldTo text at a → (k : ℕ) → k ≡ 0 + number_in ns (part at a text) → Names text ns at (record { to = a; chrom = k })
+names_found ns f k e = record { field = f; number = e ∙ rw (zero-add, part_field f) }
 
 -- before any row: the empty name
-pub knows-none : (text : List ℕ) (ns : List (List ℕ)) (s : Seen) → s.from ≡ 0 → s.to ≡ 0 → s.chrom ≡ number_in ns [] → Knows text ns s
+pub knows_none : (text : List ℕ) (ns : List (List ℕ)) (s : Seen) → s.from ≡ 0 → s.to ≡ 0 → s.chrom ≡ number_in ns [] → Knows text ns s
 unfolding front
-knows-none text ns s p q r = record {
+knows_none text ns s p q r = record {
   low = omega arith;
   high = omega arith;
   plain = rw (p, q);
@@ -41,11 +41,11 @@ knows-none text ns s p q r = record {
 }
 
 -- the name of a row that was read
-pub knows-next : {text : List ℕ} {at a : ℕ} (ns : List (List ℕ)) (chrom : ℕ) → FieldTo text at a → chrom ≡ number_in ns (field_at text at) → Knows text ns (record { from = at; to = a; chrom = chrom })
-knows-next {text} {at} {a} ns chrom f e = record {
+pub knows_next : {text : List ℕ} {at a : ℕ} (ns : List (List ℕ)) (chrom : ℕ) → FieldTo text at a → chrom ≡ number_in ns (field_at text at) → Knows text ns (record { from = at; to = a; chrom = chrom })
+knows_next {text} {at} {a} ns chrom f e = record {
   low = omega (arith, f.ends);
   high = f.inside;
-  plain = rw (part_field f) (front-front inField (drop at text));
+  plain = rw (part_field f) (front_front in_field (drop at text));
   number = e ∙ rw (part_field f);
 }
 
@@ -55,20 +55,20 @@ module _ {text : List ℕ} {ns : List (List ℕ)} {s : Seen} (w : Knows text ns 
   start : take k (drop at text) ≡ take k (part s.from s.to text)
   start = sym e ∙ sym (take-take k (s.to - s.from) (drop s.from text) le)
 
-  plain : front inField (take k (drop at text)) ≡ take k (drop at text)
-  plain = rw start (front-prefix inField (part s.from s.to text) k w.plain)
+  plain : front in_field (take k (drop at text)) ≡ take k (drop at text)
+  plain = rw start (front_prefix in_field (part s.from s.to text) k w.plain)
 
   field_is : field_at text at ≡ take k (drop at text) ++ field_at text (at + k)
   field_is =
       let cut : take k (drop at text) ++ drop (at + k) text ≡ drop at text = rw (← drop-drop k at text) (take-append-drop k (drop at text)) in
-      sym (ap (λ (l : List ℕ). front inField l) cut) ∙ front-append inField (take k (drop at text)) (drop (at + k) text) plain
+      sym (ap (λ (l : List ℕ). front in_field l) cut) ∙ front_append in_field (take k (drop at text)) (drop (at + k) text) plain
 
   long : length (take k (drop at text)) ≡ k
   long = length-take-le k (drop at text) (omega (arith, length-drop at text))
 
   module _ {a : ℕ} (f : FieldTo text (at + k) a) where
-    pub seen-to : FieldTo text at a
-    seen-to = record {
+    pub seen_to : FieldTo text at a
+    seen_to = record {
       ends = omega (arith, f.ends, ap length field_is, length-append (take k (drop at text)) (field_at text (at + k)), long);
       inside = f.inside;
     }
@@ -79,7 +79,7 @@ module _ {text : List ℕ} {ns : List (List ℕ)} {s : Seen} (w : Knows text ns 
         let all : k ≡ s.to - s.from = omega arith in
         let over : field_at text (at + k) ≡ [] = empty (field_at text (at + k)) (omega (arith, f.ends)) in
         let same : part s.from s.to text ≡ field_at text at = sym (field_is ∙ rw (over, append-nil) (start ∙ rw (all, take-take (s.to - s.from) (s.to - s.from) (drop s.from text) (omega arith)))) in
-        record { field = seen-to; number = w.number ∙ rw same }
+        record { field = seen_to; number = w.number ∙ rw same }
       where
         empty : (l : List ℕ) → length l ≡ 0 → l ≡ []
         empty [] q = refl

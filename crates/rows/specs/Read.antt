@@ -2,7 +2,7 @@
 use Rattle.std.specs.Prelude.{ℕ, ◌+◌, ◌≤◌, ◌<◌, ◌≡◌, List, length, get_or}
 use Rattle.fields.specs.Number.{Read, good, bad}
 use Rattle.fields.specs.Names.{part, number_in}
-use Rattle.fields.specs.Scan.{front, inField, line_at, field_at, nextLine, FieldTo}
+use Rattle.fields.specs.Scan.{front, in_field, line_at, field_at, next_line, FieldTo}
 use Rattle.rows.specs.Row.{row_of}
 use Rattle.rows.specs.declared.Row.{Row}
 use Rattle.rows.specs.declared.Seen.{Seen}
@@ -14,7 +14,7 @@ use Rattle.rows.specs.declared.Line.TheVariants.{Is, Not}
 pub record Knows (text : List ℕ) (ns : List (List ℕ)) (s : Seen) : Type 0 where
   pub low : s.from ≤ s.to
   pub high : s.to ≤ length text
-  pub plain : front inField (part s.from s.to text) ≡ part s.from s.to text
+  pub plain : front in_field (part s.from s.to text) ≡ part s.from s.to text
   pub number : s.chrom ≡ number_in ns (part s.from s.to text)
 
 -- the field at a place as a name: where it ends, and its number
@@ -41,7 +41,7 @@ numbers Not other = other
 
 pub record ReadsRow (text : List ℕ) (number : List ℕ → ℕ) (at : ℕ) (r : Line) : Type 0 where
   pub line : row_of number at (line_at text at) ≡ gives r
-  pub next : leads r (nextLine text at) ≡ nextLine text at
+  pub next : leads r (next_line text at) ≡ next_line text at
   pub to : ends r (at + length (field_at text at)) ≡ at + length (field_at text at)
   pub chrom : numbers r (number (field_at text at)) ≡ number (field_at text at)
 

@@ -4,7 +4,7 @@ ghost use Rattle.fields.specs.Names.{within, names, number_in};
 ghost use Rattle.fields.specs.Scan.{FieldTo, number_at, field_at};
 ghost use Rattle.fields.specs.Table.{Fills};
 ghost use Rattle.fields.specs.declared.Number.TheVariants.{Value};
-ghost use Rattle.rows.specs.Row.{ready, rowsFound, chromOf, start_of, stopOf};
+ghost use Rattle.rows.specs.Row.{ready, rows_found, chrom_of, start_of, stop_of};
 ghost use Rattle.rows.specs.Read.{Knows, Names, Named, ReadsRow};
 
 use fields::{Number, Reading};
@@ -186,7 +186,7 @@ pub fn read_rows(
     start: &mut [u64],
     stop: &mut [u64],
 ) -> Reading
-    ensures { Fills chromOf start_of stopOf (rowsFound text.now list.now from.now to.now (length chrom.old) (length start.old) (length stop.old)) chrom.old start.old stop.old result chrom.new start.new stop.new }
+    ensures { Fills chrom_of start_of stop_of (rows_found text.now list.now from.now to.now (length chrom.old) (length start.old) (length stop.old)) chrom.old start.old stop.old result chrom.new start.new stop.new }
 {
     let room = chrom.len();
     if !is_ready(room, start.len(), stop.len(), list, from, to) {

@@ -7,13 +7,13 @@ use Rattle.rules.specs.declared.Refusal.{Refusal}
 use Rattle.rules.specs.declared.Refusal.TheVariants.{Beyond, Unlisted, Unordered, Reversed}
 
 -- "Base order: chromosome number must not fall; on one chromosome start must not fall; at equal start stop must not fall."
-abbrev pub notBefore : Base → Base → Bool
-notBefore p b = lex p.chrom.0 b.chrom.0 (lex p.start b.start (leb p.stop b.stop))
+abbrev pub not_before : Base → Base → Bool
+not_before p b = lex p.chrom.0 b.chrom.0 (lex p.start b.start (leb p.stop b.stop))
 
 -- "It is measured from the last accepted base."
-abbrev pub inOrder : Option Base → Base → Bool
-inOrder none b = true
-inOrder (some p) b = notBefore p b
+abbrev pub in_order : Option Base → Base → Bool
+in_order none b = true
+in_order (some p) b = not_before p b
 
 -- "base stop beyond a known chromosome length": a length is known or unknown
 abbrev pub beyond : Option ℕ → ℕ → Bool
@@ -26,4 +26,4 @@ judge lengths last b =
     cond (leb (length lengths) b.chrom.0) (some Unlisted)
     (cond (ltb b.stop b.start) (some Reversed)
     (cond (beyond (get_or lengths b.chrom.0 none) b.stop) (some Beyond)
-    (cond (inOrder last b) none (some Unordered))))
+    (cond (in_order last b) none (some Unordered))))

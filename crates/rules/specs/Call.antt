@@ -98,13 +98,13 @@ reporting rows r b left queue hits =
     cond (ltb rows (length hits)) (end r NoRows)
     (record { run = record { left = left; queue = queue; stage = After b }; reply = found hits (offer (coming left queue) b) })
 
-abbrev pub afterPull : ℕ → Run → Base → Pull Record End → Given
-afterPull rows r b (ends e) = end r e
-afterPull rows r b (paused left queue) = reporting rows r b left queue (filter (overlaps b) queue)
+abbrev pub after_pull : ℕ → Run → Base → Pull Record End → Given
+after_pull rows r b (ends e) = end r e
+after_pull rows r b (paused left queue) = reporting rows r b left queue (filter (overlaps b) queue)
 
 -- "Others never use up room, wherever they stand in the queue": the pull starts from the live ones
 abbrev pub pulling : ℕ → ℕ → ℕ → Run → Base → Given
-pulling n Q rows r b = afterPull rows r b (pull ahead (next n) NoRoom (taken b) (live b) Q r.left (filter (live b) r.queue))
+pulling n Q rows r b = after_pull rows r b (pull ahead (next n) NoRoom (taken b) (live b) Q r.left (filter (live b) r.queue))
 
 -- an accepted base, where `wrong` is what its heads' loading met
 abbrev pub accept : ℕ → ℕ → ℕ → Run → Base → Option End → Given
@@ -116,11 +116,11 @@ judged n Q rows r b wrong (some x) = refuse r x
 judged n Q rows r b wrong none = accept n Q rows r b wrong
 
 -- "For a base: an ended run first (its old answer again), then 1, then 4, 6, 3, 5."
-abbrev pub byStage : List (Option ℕ) → ℕ → Lent → Run → Base → Stage → Given
-byStage lengths Q lent r b (Over e) = record { run = r; reply = ended e }
-byStage lengths Q lent r b Fresh = cond lent.right (judged (length lengths) Q lent.rows r b (loading (length lengths) r.left) (judge lengths none b)) (refuse r Sizes)
-byStage lengths Q lent r b (After p) = cond lent.right (judged (length lengths) Q lent.rows r b none (judge lengths (some p) b)) (refuse r Sizes)
+abbrev pub by_stage : List (Option ℕ) → ℕ → Lent → Run → Base → Stage → Given
+by_stage lengths Q lent r b (Over e) = record { run = r; reply = ended e }
+by_stage lengths Q lent r b Fresh = cond lent.right (judged (length lengths) Q lent.rows r b (loading (length lengths) r.left) (judge lengths none b)) (refuse r Sizes)
+by_stage lengths Q lent r b (After p) = cond lent.right (judged (length lengths) Q lent.rows r b none (judge lengths (some p) b)) (refuse r Sizes)
 
 -- the base b is given to the run r, whose room is Q
 unfoldable pub give : List (Option ℕ) → ℕ → Lent → Run → Base → Given
-give lengths Q lent r b = byStage lengths Q lent r b r.stage
+give lengths Q lent r b = by_stage lengths Q lent r b r.stage

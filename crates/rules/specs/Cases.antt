@@ -6,7 +6,7 @@ use Rattle.rules.specs.declared.Row.{Row}
 use Rattle.rules.specs.declared.Base.{Base}
 use Rattle.rules.specs.declared.Offer.{Offer}
 use Rattle.rules.specs.declared.Offer.TheVariants.{Nothing, Upto}
-use Rattle.rules.specs.Numbers.{number_of, endNumber, endValues}
+use Rattle.rules.specs.Numbers.{number_of, end_number, end_values}
 use Rattle.rules.specs.Rows.{Record}
 use Rattle.rules.specs.Merge.{pick, draw, merge}
 use Rattle.rules.specs.Streams.{merged, taking}
@@ -81,11 +81,11 @@ upto c s = Upto (record { chrom = record { 0 = c }; stop = s })
 
 -- ---- what it is for a reply to be the one that is wanted
 
-abbrev sameOffer : Offer → Offer → Bool
-sameOffer Nothing Nothing = true
-sameOffer Nothing (Upto h) = false
-sameOffer (Upto g) Nothing = false
-sameOffer (Upto g) (Upto h) = eqb g.chrom.0 h.chrom.0 && eqb g.stop h.stop
+abbrev same_offer : Offer → Offer → Bool
+same_offer Nothing Nothing = true
+same_offer Nothing (Upto h) = false
+same_offer (Upto g) Nothing = false
+same_offer (Upto g) (Upto h) = eqb g.chrom.0 h.chrom.0 && eqb g.stop h.stop
 
 abbrev same_rows : List Seat → List Record → Bool
 same_rows [] [] = true
@@ -93,40 +93,40 @@ same_rows [] (r ∷ rs) = false
 same_rows (s ∷ l) [] = false
 same_rows (s ∷ l) (r ∷ rs) = eqb s.stream r.stream.0 && (eqb s.row r.row && same_rows l rs)
 
-abbrev sameValues : List ℕ → List ℕ → Bool
-sameValues [] [] = true
-sameValues [] (n ∷ ns) = false
-sameValues (m ∷ ms) [] = false
-sameValues (m ∷ ms) (n ∷ ns) = eqb m n && sameValues ms ns
+abbrev same_values : List ℕ → List ℕ → Bool
+same_values [] [] = true
+same_values [] (n ∷ ns) = false
+same_values (m ∷ ms) [] = false
+same_values (m ∷ ms) (n ∷ ns) = eqb m n && same_values ms ns
 
-abbrev sameBool : Bool → Bool → Bool
-sameBool true u = u
-sameBool false u = not u
+abbrev same_bool : Bool → Bool → Bool
+same_bool true u = u
+same_bool false u = not u
 
 abbrev meant : Want → Reply → Bool
-meant (rows l o) (found rs p) = same_rows l rs && sameOffer o p
+meant (rows l o) (found rs p) = same_rows l rs && same_offer o p
 meant (rows l o) (refused x) = false
 meant (rows l o) (ended e) = false
 meant (number k) r = eqb k (number_of (answer_of r))
 meant (fault k s) (found rs p) = false
 meant (fault k s) (refused x) = false
-meant (fault k s) (ended e) = eqb k (endNumber e) && sameValues (s.stream ∷ s.row ∷ []) (endValues e)
+meant (fault k s) (ended e) = eqb k (end_number e) && same_values (s.stream ∷ s.row ∷ []) (end_values e)
 
-abbrev allMeant : List Want → List Reply → Bool
-allMeant [] [] = true
-allMeant [] (r ∷ rs) = false
-allMeant (w ∷ ws) [] = false
-allMeant (w ∷ ws) (r ∷ rs) = meant w r && allMeant ws rs
+abbrev all_meant : List Want → List Reply → Bool
+all_meant [] [] = true
+all_meant [] (r ∷ rs) = false
+all_meant (w ∷ ws) [] = false
+all_meant (w ∷ ws) (r ∷ rs) = meant w r && all_meant ws rs
 
 -- the run gives what is wanted, and so does the promise; and bases are left out as the offers permit exactly if the case says so
 abbrev right : Case → Bool
 right c =
     let gets : List Reply = answers c.job (given c.bases) in
-    allMeant c.wants gets && (allMeant c.wants (promised c.job (given c.bases)) && sameBool c.lawful (lawful Nothing c.bases (map offered gets)))
+    all_meant c.wants gets && (all_meant c.wants (promised c.job (given c.bases)) && same_bool c.lawful (lawful Nothing c.bases (map offered gets)))
 
-abbrev allRight : List Case → Bool
-allRight [] = true
-allRight (c ∷ cs) = right c && allRight cs
+abbrev all_right : List Case → Bool
+all_right [] = true
+all_right (c ∷ cs) = right c && all_right cs
 
 -- ---- the table
 
@@ -204,6 +204,6 @@ cases =
     ∷ []
 
 -- the one fact
-pub starred : allRight cases ≡ true
+pub starred : all_right cases ≡ true
 unfolding pick draw merge merged taking turns pull judge offer call.give replies said
 starred = refl

@@ -31,5 +31,5 @@ abbrev pub answers : Job → List Base → List Reply
 answers j bs = replies j.lengths j.room (fresh j.streams) bs
 
 -- the merged list of a job
-abbrev pub mergedOf : Job → List Record
-mergedOf j = merged (length j.lengths) j.streams
+abbrev pub merged_of : Job → List Record
+merged_of j = merged (length j.lengths) j.streams

@@ -19,16 +19,16 @@ abbrev pub far : Base → Record → Bool
 far p t = ltb p.stop t.it.start && ltb 100000 (t.it.start - p.stop)
 
 -- "No T: no offer. T on a later chromosome: the place is T's chromosome and start. T on p's: only if [far]; the place is T.start - 1."
-abbrev pub placeFor : Base → Option Record → Offer
-placeFor p none = Nothing
-placeFor p (some t) =
+abbrev pub place_for : Base → Option Record → Offer
+place_for p none = Nothing
+place_for p (some t) =
     cond (ltb p.chrom.0 t.it.chrom.0)
     (Upto (record { chrom = t.it.chrom; stop = t.it.start }))
     (cond (far p t) (Upto (record { chrom = t.it.chrom; stop = t.it.start - 1 })) Nothing)
 
 -- "After an accepted base p with start < stop"; "After a base of length zero nothing is offered."
 unfoldable pub offer : List Record → Base → Offer
-offer M p = cond (ltb p.start p.stop) (placeFor p (target M p)) Nothing
+offer M p = cond (ltb p.start p.stop) (place_for p (target M p)) Nothing
 
 -- "A place permits leaving out the following bases on earlier chromosomes, and on its own those with stop at or below it"
 abbrev pub permits : Place → Base → Bool

@@ -1,7 +1,7 @@
 -- What a job is promised, with no run: each base by the merged list, the bases accepted ahead of it, and the room.
 use Rattle.std.specs.Prelude.{Bool, true, false, cond, not, ◌&&◌, List, [], ◌∷◌, map, ℕ, max, eqb, ltb, length}
 use Rattle.std.proofs.Math.Option.{Option, none, some}
-use Rattle.basics.specs.Lists.{some?, filter, front, back, head?}
+use Rattle.basics.specs.Lists.{is_some, filter, front, back, first_one}
 use Rattle.rules.specs.declared.Base.{Base}
 use Rattle.rules.specs.declared.Refusal.{Refusal}
 use Rattle.rules.specs.declared.End.{End}
@@ -12,7 +12,7 @@ use Rattle.rules.specs.Overlap.{meets, overlaps, taken}
 use Rattle.rules.specs.Bases.{judge}
 use Rattle.rules.specs.Offer.{offer}
 use Rattle.rules.specs.Call.{Reply, found, refused, ended, loading}
-use Rattle.rules.specs.Job.{Job, mergedOf}
+use Rattle.rules.specs.Job.{Job, merged_of}
 
 -- "the largest stop given on that chromosome so far": of n and the bases on chromosome c
 abbrev pub top : ℕ → ℕ → List Base → ℕ
@@ -29,10 +29,10 @@ crowd M hs b = filter (crowds b (top b.chrom.0 b.stop hs)) M
 
 -- the heads ahead of the first whose successor is at fault, and those from it on
 abbrev pub clear : {R E : Type 0} → List (Head R E) → List (Head R E)
-clear hs = front (λ h. not (some? h.fault)) hs
+clear hs = front (λ h. not (is_some h.fault)) hs
 
 abbrev pub wall : {R E : Type 0} → List (Head R E) → List (Head R E)
-wall hs = back (λ h. not (some? h.fault)) hs
+wall hs = back (λ h. not (is_some h.fault)) hs
 
 abbrev pub records : {R E : Type 0} → List (Head R E) → List R
 records hs = map (λ h. h.it) hs
@@ -49,22 +49,22 @@ ending n Q ss hs b =
     (cond (ltb Q (length (crowd (records (clear (taking n ss))) hs b))) (some NoRoom) (struck (taken b) (wall (taking n ss))))
 
 -- the replies where the run ends, and where it goes on
-abbrev pub unlessEnded : Option End → List Base → List Reply → List Reply
-unlessEnded none bs rs = rs
-unlessEnded (some e) bs rs = map (λ b. ended e) bs
+abbrev pub unless_ended : Option End → List Base → List Reply → List Reply
+unless_ended none bs rs = rs
+unless_ended (some e) bs rs = map (λ b. ended e) bs
 
-abbrev pub unlessRefused : Option Refusal → List Reply → List Reply → List Reply
-unlessRefused none same rs = rs
-unlessRefused (some x) same rs = refused x ∷ same
+abbrev pub unless_refused : Option Refusal → List Reply → List Reply → List Reply
+unless_refused none same rs = rs
+unless_refused (some x) same rs = refused x ∷ same
 
 -- the replies to the bases `bs`, behind the accepted bases `hs`, the last first
 unfoldable pub said : Job → List Base → List Base → List Reply
 said j hs [] = []
 said j hs (b ∷ bs) =
-    unlessRefused (judge j.lengths (head? hs) b)
+    unless_refused (judge j.lengths (first_one hs) b)
     (said j hs bs)
-    (unlessEnded (ending (length j.lengths) j.room (numbered 0 j.streams) hs b) (b ∷ bs)
-    (found (filter (overlaps b) (mergedOf j)) (offer (mergedOf j) b) ∷ said j (b ∷ hs) bs))
+    (unless_ended (ending (length j.lengths) j.room (numbered 0 j.streams) hs b) (b ∷ bs)
+    (found (filter (overlaps b) (merged_of j)) (offer (merged_of j) b) ∷ said j (b ∷ hs) bs))
 
 -- the replies that the bases of a job are promised
 abbrev pub promised : Job → List Base → List Reply

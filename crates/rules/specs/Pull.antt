@@ -10,9 +10,9 @@ pub data Pull (R E : Type 0) : Type 0 where
   ends : E → Pull R E
 
 -- what is wrong ends the run
-abbrev pub unlessWrong : {R E : Type 0} → Option E → Pull R E → Pull R E
-unlessWrong none p = p
-unlessWrong (some e) p = ends e
+abbrev pub unless_wrong : {R E : Type 0} → Option E → Pull R E → Pull R E
+unless_wrong none p = p
+unless_wrong (some e) p = ends e
 
 -- ahead: which head is the least; flaw: what is wrong behind a head; full: the end by no room
 module _ {R E : Type 0} (ahead : R → R → Bool) (flaw : R → List R → Option E) (full : E) where
@@ -24,7 +24,7 @@ module _ {R E : Type 0} (ahead : R → R → Bool) (flaw : R → List R → Opti
     turn on ss queue Pick.none = paused ss queue
     turn on ss queue (Pick.one a rest ts) =
         cond (taken a)
-        (unlessWrong (flaw a rest) (cond (live a) (cond (leb Q (length queue)) (ends full) (on ts (queue ++ a ∷ []))) (on ts queue)))
+        (unless_wrong (flaw a rest) (cond (live a) (cond (leb Q (length queue)) (ends full) (on ts (queue ++ a ∷ []))) (on ts queue)))
         (paused ss queue)
 
     -- at most n turns

@@ -27,5 +27,5 @@ misnamed [] = false
 misnamed (n ∷ ns) = not (within 1 255 (length n)) || (any (same n) ns || misnamed ns)
 
 -- "At a start: 1, then 2.", of what a run has fixed from its start and the chromosomes' names
-unfoldable pub refusesStart : Settings → List (List ℕ) → Option Unbegun
-refusesStart s names = cond (sized s) (cond (misnamed names) (some Names) none) (some Sizes)
+unfoldable pub refuses_start : Settings → List (List ℕ) → Option Unbegun
+refuses_start s names = cond (sized s) (cond (misnamed names) (some Names) none) (some Sizes)

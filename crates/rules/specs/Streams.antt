@@ -1,7 +1,7 @@
 -- Streams: the rows ahead of a stream's first fault, and the merged list of several streams.
 use Rattle.std.specs.Prelude.{Bool, not, List, [], ◌∷◌, map, ℕ, leb}
 use Rattle.std.proofs.Math.Option.{Option, none, some}
-use Rattle.basics.specs.Lists.{some?}
+use Rattle.basics.specs.Lists.{is_some}
 use Rattle.basics.specs.Lex.{lex}
 use Rattle.rules.specs.declared.Row.{Row}
 use Rattle.rules.specs.declared.End.{End}
@@ -24,9 +24,9 @@ check n p [] = none
 check n p (x ∷ l) = fault n p x
 
 -- the first fault of a stream, from the rows behind p on
-abbrev pub firstFault : ℕ → Option Row → List Record → Option End
-firstFault n p [] = none
-firstFault n p (x ∷ l) = else (fault n p x) (firstFault n (some x.it) l)
+abbrev pub first_fault : ℕ → Option Row → List Record → Option End
+first_fault n p [] = none
+first_fault n p (x ∷ l) = else (fault n p x) (first_fault n (some x.it) l)
 
 -- "For faulty streams, only the rows ahead of each stream's first fault count."
 abbrev pub sound : ℕ → Option Row → List Record → List Record
@@ -35,7 +35,7 @@ sound n p (x ∷ l) = unless (fault n p x) (x ∷ sound n (some x.it) l)
 
 -- a stream is valid on n chromosomes: no row of it is at fault
 abbrev pub valid : ℕ → List Record → Bool
-valid n l = not (some? (firstFault n none l))
+valid n l = not (is_some (first_fault n none l))
 
 -- "the least head by chromosome, start, stop, stream number"
 abbrev pub ahead : Record → Record → Bool

@@ -4,27 +4,27 @@ use mathlib.Core.List.{List, [], ◌∷◌, map}
 use Prim.Native.Nat.{ℕ, zero, suc, ◌<◌}
 use native.Mathlib.Omega.{arith}
 use lib.ListN.{length, get_or}
-use Rattle.heads.specs.View.{Heads, foursOf, columnIn, headsBy}
+use Rattle.heads.specs.View.{Heads, fours_of, column_in, heads_by}
 use Rattle.heads.specs.Move.{Shaped}
 
 -- a list of eight, place by place
-pub eight-of : {A : Type 0} (d : A) (l : List A) → length l ≡ 8 → get_or l 0 d ∷ get_or l 1 d ∷ get_or l 2 d ∷ get_or l 3 d ∷ get_or l 4 d ∷ get_or l 5 d ∷ get_or l 6 d ∷ get_or l 7 d ∷ [] ≡ l
-eight-of d [] e = absurd (omega (arith, e))
-eight-of d (a ∷ []) e = absurd (omega (arith, e))
-eight-of d (a ∷ b ∷ []) e = absurd (omega (arith, e))
-eight-of d (a ∷ b ∷ c ∷ []) e = absurd (omega (arith, e))
-eight-of d (a ∷ b ∷ c ∷ f ∷ []) e = absurd (omega (arith, e))
-eight-of d (a ∷ b ∷ c ∷ f ∷ g ∷ []) e = absurd (omega (arith, e))
-eight-of d (a ∷ b ∷ c ∷ f ∷ g ∷ h ∷ []) e = absurd (omega (arith, e))
-eight-of d (a ∷ b ∷ c ∷ f ∷ g ∷ h ∷ i ∷ []) e = absurd (omega (arith, e))
-eight-of d (a ∷ b ∷ c ∷ f ∷ g ∷ h ∷ i ∷ j ∷ []) e = refl
-eight-of d (a ∷ b ∷ c ∷ f ∷ g ∷ h ∷ i ∷ j ∷ k ∷ l) e = absurd (omega (arith, e))
+pub eight_of_lem : {A : Type 0} (d : A) (l : List A) → length l ≡ 8 → get_or l 0 d ∷ get_or l 1 d ∷ get_or l 2 d ∷ get_or l 3 d ∷ get_or l 4 d ∷ get_or l 5 d ∷ get_or l 6 d ∷ get_or l 7 d ∷ [] ≡ l
+eight_of_lem d [] e = absurd (omega (arith, e))
+eight_of_lem d (a ∷ []) e = absurd (omega (arith, e))
+eight_of_lem d (a ∷ b ∷ []) e = absurd (omega (arith, e))
+eight_of_lem d (a ∷ b ∷ c ∷ []) e = absurd (omega (arith, e))
+eight_of_lem d (a ∷ b ∷ c ∷ f ∷ []) e = absurd (omega (arith, e))
+eight_of_lem d (a ∷ b ∷ c ∷ f ∷ g ∷ []) e = absurd (omega (arith, e))
+eight_of_lem d (a ∷ b ∷ c ∷ f ∷ g ∷ h ∷ []) e = absurd (omega (arith, e))
+eight_of_lem d (a ∷ b ∷ c ∷ f ∷ g ∷ h ∷ i ∷ []) e = absurd (omega (arith, e))
+eight_of_lem d (a ∷ b ∷ c ∷ f ∷ g ∷ h ∷ i ∷ j ∷ []) e = refl
+eight_of_lem d (a ∷ b ∷ c ∷ f ∷ g ∷ h ∷ i ∷ j ∷ k ∷ l) e = absurd (omega (arith, e))
 
 -- number i of each of eight fours
-pub column-of : (i : ℕ) (q : List (List ℕ)) → length q ≡ 8
-    → get_or (get_or q 0 []) i 0 ∷ get_or (get_or q 1 []) i 0 ∷ get_or (get_or q 2 []) i 0 ∷ get_or (get_or q 3 []) i 0 ∷ get_or (get_or q 4 []) i 0 ∷ get_or (get_or q 5 []) i 0 ∷ get_or (get_or q 6 []) i 0 ∷ get_or (get_or q 7 []) i 0 ∷ [] ≡ columnIn i q
-column-of i q e = ap (columnIn i) (eight-of [] q e)
+pub column_of : (i : ℕ) (q : List (List ℕ)) → length q ≡ 8
+    → get_or (get_or q 0 []) i 0 ∷ get_or (get_or q 1 []) i 0 ∷ get_or (get_or q 2 []) i 0 ∷ get_or (get_or q 3 []) i 0 ∷ get_or (get_or q 4 []) i 0 ∷ get_or (get_or q 5 []) i 0 ∷ get_or (get_or q 6 []) i 0 ∷ get_or (get_or q 7 []) i 0 ∷ [] ≡ column_in i q
+column_of i q e = ap (column_in i) (eight_of_lem [] q e)
 
 -- the fours that are built from the flat arrays are the run's heads
-pub heads-flat : (h : Heads) → Shaped h → headsBy (foursOf h.chrom h.start h.stop h.row) h.ended h.next h.from h.to h.streams ≡ h
-heads-flat h w = rw (eight-of 0 h.chrom w.chrom, eight-of 0 h.start w.start, eight-of 0 h.stop w.stop, eight-of 0 h.row w.row)
+pub heads_flat : (h : Heads) → Shaped h → heads_by (fours_of h.chrom h.start h.stop h.row) h.ended h.next h.from h.to h.streams ≡ h
+heads_flat h w = rw (eight_of_lem 0 h.chrom w.chrom, eight_of_lem 0 h.start w.start, eight_of_lem 0 h.stop w.stop, eight_of_lem 0 h.row w.row)

@@ -3,12 +3,12 @@ use mathlib.Core.Path.{◌≡◌, refl}
 use Rattle.rules.specs.declared.End.TheVariants.{Faulty, Unsorted, NoRoom, NoRows}
 use Rattle.rules.specs.declared.Stage.{Stage}
 use Rattle.rules.specs.declared.Stage.TheVariants.{Fresh, After, Over}
-use Rattle.runs.specs.Marks.{stageIn, markOf}
+use Rattle.runs.specs.Marks.{stage_in, mark_of}
 
-pub stage-back : (t : Stage) → stageIn (markOf t) ≡ t
-stage-back Fresh = refl
-stage-back (After b) = refl
-stage-back (Over (Faulty s k)) = refl
-stage-back (Over (Unsorted s k)) = refl
-stage-back (Over NoRoom) = refl
-stage-back (Over NoRows) = refl
+pub stage_back : (t : Stage) → stage_in (mark_of t) ≡ t
+stage_back Fresh = refl
+stage_back (After b) = refl
+stage_back (Over (Faulty s k)) = refl
+stage_back (Over (Unsorted s k)) = refl
+stage_back (Over NoRoom) = refl
+stage_back (Over NoRows) = refl

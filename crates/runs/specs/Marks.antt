@@ -4,7 +4,7 @@ use Rattle.rules.specs.declared.End.{End}
 use Rattle.rules.specs.declared.End.TheVariants.{Faulty, Unsorted, NoRoom, NoRows}
 use Rattle.rules.specs.declared.Stage.{Stage}
 use Rattle.rules.specs.declared.Stage.TheVariants.{Fresh, After, Over}
-use Rattle.rules.specs.Numbers.{endNumber}
+use Rattle.rules.specs.Numbers.{end_number}
 use Rattle.runs.specs.declared.mark.Mark.{Mark}
 
 -- ---- from numbers
@@ -17,8 +17,8 @@ end_in m =
     (cond (eqb m.kind 9) NoRoom NoRows))
 
 -- how a run stands: 0, no base accepted yet; 1, the last accepted base; else its end
-abbrev pub stageIn : Mark → Stage
-stageIn m =
+abbrev pub stage_in : Mark → Stage
+stage_in m =
     cond (eqb m.kind 0) Fresh
     (cond (eqb m.kind 1) (After (record { chrom = record { 0 = m.first }; start = m.second; stop = m.third }))
     (Over (end_in m)))
@@ -28,13 +28,13 @@ stageIn m =
 abbrev pub marked : ℕ → ℕ → ℕ → ℕ → Mark
 marked kind first second third = record { kind = kind; first = first; second = second; third = third }
 
-abbrev pub markOfEnd : End → Mark
-markOfEnd (Faulty s k) = marked 7 s.0 k 0
-markOfEnd (Unsorted s k) = marked 8 s.0 k 0
-markOfEnd NoRoom = marked 9 0 0 0
-markOfEnd NoRows = marked 10 0 0 0
+abbrev pub mark_of_end : End → Mark
+mark_of_end (Faulty s k) = marked 7 s.0 k 0
+mark_of_end (Unsorted s k) = marked 8 s.0 k 0
+mark_of_end NoRoom = marked 9 0 0 0
+mark_of_end NoRows = marked 10 0 0 0
 
-abbrev pub markOf : Stage → Mark
-markOf Fresh = marked 0 0 0 0
-markOf (After b) = marked 1 b.chrom.0 b.start b.stop
-markOf (Over e) = markOfEnd e
+abbrev pub mark_of : Stage → Mark
+mark_of Fresh = marked 0 0 0 0
+mark_of (After b) = marked 1 b.chrom.0 b.start b.stop
+mark_of (Over e) = mark_of_end e

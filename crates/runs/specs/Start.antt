@@ -8,7 +8,7 @@ use Rattle.rules.specs.declared.Stage.TheVariants.{Fresh}
 use Rattle.rules.specs.declared.Settings.{Settings}
 use Rattle.rules.specs.declared.Unbegun.{Unbegun}
 use Rattle.rules.specs.declared.Unbegun.TheVariants.{Sizes, Names}
-use Rattle.rules.specs.Start.{refusesStart}
+use Rattle.rules.specs.Start.{refuses_start}
 use Rattle.fields.specs.Names.{within, names}
 use Rattle.chroms.specs.declared.Check.{Check}
 use Rattle.chroms.specs.declared.Check.TheVariants as check
@@ -17,7 +17,7 @@ use Rattle.runs.specs.declared.Run.{Run}
 use Rattle.runs.specs.declared.start.Begins.{Begins}
 use Rattle.runs.specs.declared.start.Begins.TheVariants.{Begun, Refused}
 use Rattle.runs.specs.declared.start.Started.{Started}
-use Rattle.runs.specs.Marks.{markOf}
+use Rattle.runs.specs.Marks.{mark_of}
 use Rattle.runs.specs.View.{eight}
 use Rattle.pulls.specs.Pulls.{Lent}
 
@@ -29,24 +29,24 @@ pub record Plan : Type 0 where
   pub from : List ℕ
   pub to : List ℕ
   pub text : List ℕ
-  pub names-from : List ℕ
-  pub names-to : List ℕ
+  pub names_from : List ℕ
+  pub names_to : List ℕ
   pub cols : Cols
 
 abbrev pub plan : Settings → List ℕ → List ℕ → List ℕ → List ℕ → List ℕ → Cols → Plan
-plan fixed from to text names-from names-to s = record { settings = fixed; from = from; to = to; text = text; names-from = names-from; names-to = names-to; cols = s }
+plan fixed from to text names_from names_to s = record { settings = fixed; from = from; to = to; text = text; names_from = names_from; names_to = names_to; cols = s }
 
 -- the names, in list order
 abbrev pub names_of : Plan → List (List ℕ)
-names_of p = names p.text p.names-from p.names-to
+names_of p = names p.text p.names_from p.names_to
 
 -- the row at place i of the columns
 abbrev pub row_in : Cols → ℕ → Row
 row_in s i = record { chrom = record { 0 = get_or s.chrom i 0 }; start = get_or s.start i 0; stop = get_or s.stop i 0 }
 
 -- "columns of numbers lent, a range for each stream": the rows of each of n streams
-abbrev pub streamsOf : Cols → ℕ → List ℕ → List ℕ → List (List Row)
-streamsOf s n from to = build (λ k. build (row_in s) (get_or to k 0 - get_or from k 0) (get_or from k 0)) n 0
+abbrev pub streams_of : Cols → ℕ → List ℕ → List ℕ → List (List Row)
+streams_of s n from to = build (λ k. build (row_in s) (get_or to k 0 - get_or from k 0) (get_or from k 0)) n 0
 
 -- ---- 1, then 2
 
@@ -55,63 +55,63 @@ abbrev pub evened : Cols → Bool
 evened s = eqb (length s.start) (length s.chrom) && eqb (length s.stop) (length s.chrom)
 
 -- "a run [..] names no lent [..] row": not so of stream k's range, where there are so many rows
-abbrev pub rangedAt : ℕ → List ℕ → List ℕ → ℕ → Bool
-rangedAt rows from to k = leb (get_or from k 0) (get_or to k 0) && leb (get_or to k 0) rows
+abbrev pub ranged_at : ℕ → List ℕ → List ℕ → ℕ → Bool
+ranged_at rows from to k = leb (get_or from k 0) (get_or to k 0) && leb (get_or to k 0) rows
 
 -- the same of each of n streams, for which there are eight places
 unfoldable pub ranged : ℕ → ℕ → List ℕ → List ℕ → Bool
-ranged rows n from to = leb n 8 && all (rangedAt rows from to) (upto n)
+ranged rows n from to = leb n 8 && all (ranged_at rows from to) (upto n)
 
-abbrev pub inRows : Plan → Bool
-inRows p = ranged (length p.cols.chrom) p.settings.streams p.from p.to
+abbrev pub in_rows : Plan → Bool
+in_rows p = ranged (length p.cols.chrom) p.settings.streams p.from p.to
 
 -- the names' two columns are of one length, too, and name what is in the text
-abbrev pub inText : Plan → Bool
-inText p = within (length p.text) p.names-from p.names-to
+abbrev pub in_text : Plan → Bool
+in_text p = within (length p.text) p.names_from p.names_to
 
 -- there are as many names as chromosomes
 abbrev pub counted : Plan → Bool
-counted p = eqb (length p.names-from) p.settings.chroms
+counted p = eqb (length p.names_from) p.settings.chroms
 
 -- 1 is not due but for the sizes: "lent columns differ in length, or a run [..] names no lent stream or row"
 unfoldable pub lendable : Plan → Bool
-lendable p = counted p && evened p.cols && inRows p && inText p
+lendable p = counted p && evened p.cols && in_rows p && in_text p
 
 -- "At a start: 1, then 2.": what is refused, if anything
-unfoldable pub refusedOf : Plan → Option Unbegun
-refusedOf p = cond (lendable p) (refusesStart p.settings (names_of p)) (some Sizes)
+unfoldable pub refused_of : Plan → Option Unbegun
+refused_of p = cond (lendable p) (refuses_start p.settings (names_of p)) (some Sizes)
 
 -- ---- the answer
 
 -- 1 comes first: the next answer where all fits
-abbrev pub afterOne : Bool → Begins → Begins
-afterOne fits next = cond fits next (Refused Sizes)
+abbrev pub after_one : Bool → Begins → Begins
+after_one fits next = cond fits next (Refused Sizes)
 
 -- 1, then 2, from whether all fits but for the names, and what the check of their list says
-abbrev pub judgedBy : Bool → Check → Begins
-judgedBy fits check.Fine = afterOne fits Begun
-judgedBy fits check.Sizes = Refused Sizes
-judgedBy fits check.Names = afterOne fits (Refused Names)
+abbrev pub judged_by : Bool → Check → Begins
+judged_by fits check.Fine = after_one fits Begun
+judged_by fits check.Sizes = Refused Sizes
+judged_by fits check.Names = after_one fits (Refused Names)
 
-abbrev pub begunBy : Option Unbegun → Begins
-begunBy none = Begun
-begunBy (some x) = Refused x
+abbrev pub begun_by : Option Unbegun → Begins
+begun_by none = Begun
+begun_by (some x) = Refused x
 
-abbrev pub beginsOf : Plan → Begins
-beginsOf p = begunBy (refusedOf p)
+abbrev pub begins_of : Plan → Begins
+begins_of p = begun_by (refused_of p)
 
 -- a run that has accepted no base: its heads are not loaded and nothing waits
-abbrev pub freshRun : Settings → List ℕ → List ℕ → Run
-freshRun fixed from to = record { chrom = eight 0; start = eight 0; stop = eight 0; row = eight 0; ended = eight 1; next = from; from = from; to = to; settings = fixed; head = 0; len = 0; place = 0; mark = markOf Fresh }
+abbrev pub fresh_run : Settings → List ℕ → List ℕ → Run
+fresh_run fixed from to = record { chrom = eight 0; start = eight 0; stop = eight 0; row = eight 0; ended = eight 1; next = from; from = from; to = to; settings = fixed; head = 0; len = 0; place = 0; mark = mark_of Fresh }
 
 -- "no run begins": the run of no streams is given back
 abbrev pub run_from : Begins → Plan → Run
-run_from Begun p = freshRun p.settings p.from p.to
-run_from (Refused x) p = freshRun (record { streams = 0; chroms = 0; room = 0 }) (eight 0) (eight 0)
+run_from Begun p = fresh_run p.settings p.from p.to
+run_from (Refused x) p = fresh_run (record { streams = 0; chroms = 0; room = 0 }) (eight 0) (eight 0)
 
 -- what a start gives, of any values
 abbrev pub start_of : Plan → Started
-start_of p = record { run = run_from (beginsOf p) p; begins = beginsOf p }
+start_of p = record { run = run_from (begins_of p) p; begins = begins_of p }
 
 -- ---- what is lent with a base
 

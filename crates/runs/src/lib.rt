@@ -3,8 +3,8 @@ mod mark;
 mod start;
 
 ghost use Rattle.std.specs.Prelude.{◌≡◌, ◌<◌};
-ghost use Rattle.heads.specs.View.{fourAt, foursOf, columnIn, headsBy};
-ghost use Rattle.runs.specs.View.{ringOf, stageOf, runIn, overOf};
+ghost use Rattle.heads.specs.View.{four_at, fours_of, column_in, heads_by};
+ghost use Rattle.runs.specs.View.{ring_of, stage_of, run_in, over_of};
 
 pub use mark::{Mark, mark_of, stage_in};
 use queue::Ring;
@@ -48,7 +48,7 @@ fn four_at<'a>(
     k: usize,
 ) -> [u64; 4]
     requires { k < 8 }
-    ensures { result ≡ fourAt chrom.now start.now stop.now row.now k }
+    ensures { result ≡ four_at chrom.now start.now stop.now row.now k }
 {
     [chrom[k], start[k], stop[k], row[k]]
 }
@@ -56,7 +56,7 @@ fn four_at<'a>(
 // Number i of each four.
 fn column(q: [[u64; 4]; 8], i: usize) -> [u64; 8]
     requires { i < 4 }
-    ensures { result ≡ columnIn i q }
+    ensures { result ≡ column_in i q }
 {
     [
         q[0][i], q[1][i], q[2][i], q[3][i], q[4][i], q[5][i], q[6][i], q[7][i],
@@ -75,7 +75,7 @@ impl Run {
 
     // The heads as an array of fours, built from the flat arrays.
     pub fn fours(self) -> [[u64; 4]; 8]
-        ensures { result ≡ foursOf self.chrom self.start self.stop self.row }
+        ensures { result ≡ fours_of self.chrom self.start self.stop self.row }
     {
         let x0 = four_at(&self.chrom, &self.start, &self.stop, &self.row, 0);
         let x1 = four_at(&self.chrom, &self.start, &self.stop, &self.row, 1);
@@ -90,7 +90,7 @@ impl Run {
 
     // What waits, as a ring.
     pub fn ring(self) -> Ring
-        ensures { result ≡ ringOf self }
+        ensures { result ≡ ring_of self }
     {
         let fixed = self.settings;
         let chrom = Chrom(self.place);
@@ -104,7 +104,7 @@ impl Run {
 
     // How the run stands.
     pub fn stage(self) -> Stage
-        ensures { result ≡ stageOf self }
+        ensures { result ≡ stage_of self }
     {
         let mark = self.mark;
         stage_in(mark)
@@ -119,7 +119,7 @@ impl Run {
         ring: Ring,
         mark: Mark,
     ) -> Run
-        ensures { result ≡ runIn (headsBy q ended next self.from self.to self.settings.streams) self.settings.chroms ring mark }
+        ensures { result ≡ run_in (heads_by q ended next self.from self.to self.settings.streams) self.settings.chroms ring mark }
     {
         let from = self.from;
         let to = self.to;
@@ -153,7 +153,7 @@ impl Run {
 
     // The run ended: nothing is left of any stream and nothing waits.
     pub fn over(self, e: End) -> Run
-        ensures { result ≡ overOf self e }
+        ensures { result ≡ over_of self e }
     {
         let from = self.from;
         let to = self.to;

@@ -1,6 +1,6 @@
 // How a run stands, in numbers: every number has a meaning.
 ghost use Rattle.std.specs.Prelude.{◌≡◌};
-ghost use Rattle.runs.specs.Marks.{end_in, stageIn, markOfEnd, markOf};
+ghost use Rattle.runs.specs.Marks.{end_in, stage_in, mark_of_end, mark_of};
 
 use rules::{Base, Chrom, End, Stage, Stream};
 
@@ -34,7 +34,7 @@ fn end_in(m: Mark) -> End
 
 // How the run stands that has this mark.
 pub fn stage_in(m: Mark) -> Stage
-    ensures { result ≡ stageIn m }
+    ensures { result ≡ stage_in m }
 {
     if m.kind == 0 {
         return Stage::Fresh;
@@ -53,7 +53,7 @@ pub fn stage_in(m: Mark) -> Stage
 
 // The mark of a run that has ended.
 fn mark_of_end(e: End) -> Mark
-    ensures { result ≡ markOfEnd e }
+    ensures { result ≡ mark_of_end e }
 {
     match e {
         End::Faulty(s, k) => Mark {
@@ -85,7 +85,7 @@ fn mark_of_end(e: End) -> Mark
 
 // The mark of a run that stands so.
 pub fn mark_of(t: Stage) -> Mark
-    ensures { result ≡ markOf t }
+    ensures { result ≡ mark_of t }
 {
     match t {
         Stage::Fresh => Mark {

@@ -1,7 +1,7 @@
 // A run begins: 1, then 2.
 ghost use Rattle.std.specs.Prelude.{◌≡◌};
 ghost use Rattle.heads.specs.View.{cols};
-ghost use Rattle.runs.specs.Start.{plan, ranged, afterOne, judgedBy, freshRun, start_of};
+ghost use Rattle.runs.specs.Start.{plan, ranged, after_one, judged_by, fresh_run, start_of};
 ghost use Rattle.runs.specs.View.{eight};
 
 use crate::Run;
@@ -25,7 +25,7 @@ pub struct Started {
 
 // 1 comes first: the next answer where all fits.
 fn after_one(fits: bool, next: Begins) -> Begins
-    ensures { result ≡ afterOne fits next }
+    ensures { result ≡ after_one fits next }
 {
     if fits {
         return next;
@@ -35,7 +35,7 @@ fn after_one(fits: bool, next: Begins) -> Begins
 
 // 1, then 2: from whether all fits but for the names, and what the check of their list says.
 fn judge(fits: bool, list: Check) -> Begins
-    ensures { result ≡ judgedBy fits list }
+    ensures { result ≡ judged_by fits list }
 {
     match list {
         Check::Fine => after_one(fits, Begins::Begun),
@@ -47,7 +47,7 @@ fn judge(fits: bool, list: Check) -> Begins
 impl Run {
     // A run that has accepted no base: its heads are not loaded and nothing waits.
     fn fresh(fixed: Settings, from: [usize; 8], to: [usize; 8]) -> Run
-        ensures { result ≡ freshRun fixed from to }
+        ensures { result ≡ fresh_run fixed from to }
     {
         let none = [0; 8];
         let mark = mark_of(Stage::Fresh);
@@ -70,7 +70,7 @@ impl Run {
 
     // The run of no streams, to which every base is refused by 1.
     fn none() -> Run
-        ensures { result ≡ freshRun (record { streams = 0; chroms = 0; room = 0 }) (eight 0) (eight 0) }
+        ensures { result ≡ fresh_run (record { streams = 0; chroms = 0; room = 0 }) (eight 0) (eight 0) }
     {
         let fixed = Settings {
             streams: 0,

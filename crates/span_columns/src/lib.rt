@@ -2,7 +2,7 @@
 ghost use Rattle.std.specs.Prelude.{◌≡◌, [], ◌∷◌, ◌<◌, ◌≤◌, length, replicate};
 ghost use Rattle.spans.specs.Spans.{stretch, spans};
 ghost use Rattle.layouts.specs.Fragments.{gaps};
-ghost use Rattle.layouts.specs.Given.{given, allGiven};
+ghost use Rattle.layouts.specs.Given.{given, all_given};
 ghost use Rattle.layouts.specs.Layout.{owned};
 ghost use Rattle.layouts.specs.Columns.{over};
 ghost use Rattle.span_columns.specs.Writing.{Fits, Puts, Fronts};
@@ -72,8 +72,8 @@ pub fn put_all(
     outs: &mut [u64],
     oute: &mut [u64],
 ) -> usize
-    requires { (length starts.now ≡ length stops.now) × Fits (allGiven giving base (spans starts.now stops.now)) 0 outs.old oute.old }
-    ensures { Puts (allGiven giving base (spans starts.now stops.now)) 0 outs.old oute.old result outs.new oute.new }
+    requires { (length starts.now ≡ length stops.now) × Fits (all_given giving base (spans starts.now stops.now)) 0 outs.old oute.old }
+    ensures { Puts (all_given giving base (spans starts.now stops.now)) 0 outs.old oute.old result outs.new oute.new }
 {
     let mut at: usize = 0;
     let mut i: usize = 0;

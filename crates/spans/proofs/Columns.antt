@@ -10,25 +10,25 @@ use lib.Seq.{drop-cons}
 use Rattle.spans.specs.declared.Span.{Span}
 use Rattle.spans.specs.Spans.{span, spans}
 
-pub length-spans : (ss es : List ℕ) → length ss ≡ length es → length (spans ss es) ≡ length ss
+pub length_spans : (ss es : List ℕ) → length ss ≡ length es → length (spans ss es) ≡ length ss
 unfolding zip_with
-length-spans [] es h = refl
-length-spans (s ∷ ss) [] h = absurd (omega arith)
-length-spans (s ∷ ss) (e ∷ es) h = ap suc (length-spans ss es (omega arith))
+length_spans [] es h = refl
+length_spans (s ∷ ss) [] h = absurd (omega arith)
+length_spans (s ∷ ss) (e ∷ es) h = ap suc (length_spans ss es (omega arith))
 
-getD-spans : (ss es : List ℕ) (i : ℕ) (d : Span) → length ss ≡ length es → i < length ss → get_or (spans ss es) i d ≡ span (get_or ss i 0) (get_or es i 0)
+get_d_spans : (ss es : List ℕ) (i : ℕ) (d : Span) → length ss ≡ length es → i < length ss → get_or (spans ss es) i d ≡ span (get_or ss i 0) (get_or es i 0)
 unfolding zip_with
-getD-spans [] es i d h k = absurd (not-suc-le-zero k)
-getD-spans (s ∷ ss) [] i d h k = absurd (omega arith)
-getD-spans (s ∷ ss) (e ∷ es) zero d h k = refl
-getD-spans (s ∷ ss) (e ∷ es) (suc i) d h k = getD-spans ss es i d (omega arith) (le_of_suc-le-suc k)
+get_d_spans [] es i d h k = absurd (not-suc-le-zero k)
+get_d_spans (s ∷ ss) [] i d h k = absurd (omega arith)
+get_d_spans (s ∷ ss) (e ∷ es) zero d h k = refl
+get_d_spans (s ∷ ss) (e ∷ es) (suc i) d h k = get_d_spans ss es i d (omega arith) (le_of_suc-le-suc k)
 
 module _ (ss es : List ℕ) (i : ℕ) (same : length ss ≡ length es) where
   -- what is left at row i: that row, and what is left at the next
-  pub spans-at : i < length ss → drop i (spans ss es) ≡ span (get_or ss i 0) (get_or es i 0) ∷ drop (i + 1) (spans ss es)
-  spans-at h =
-      let more : i < length (spans ss es) = omega (arith, length-spans ss es same) in
-      rw (add-one, drop-cons (spans ss es) i (span 0 0) more, getD-spans ss es i (span 0 0) same h)
+  pub spans_at : i < length ss → drop i (spans ss es) ≡ span (get_or ss i 0) (get_or es i 0) ∷ drop (i + 1) (spans ss es)
+  spans_at h =
+      let more : i < length (spans ss es) = omega (arith, length_spans ss es same) in
+      rw (add-one, drop-cons (spans ss es) i (span 0 0) more, get_d_spans ss es i (span 0 0) same h)
 
-  pub spans-end : length ss ≤ i → drop i (spans ss es) ≡ []
-  spans-end h = drop_of_length-le (spans ss es) {i = i} (omega (arith, length-spans ss es same))
+  pub spans_end : length ss ≤ i → drop i (spans ss es) ≡ []
+  spans_end h = drop_of_length-le (spans ss es) {i = i} (omega (arith, length_spans ss es same))

@@ -23,58 +23,58 @@ use Rattle.rules.specs.Overlap.{taken, live, overlaps}
 use Rattle.rules.specs.Offer.{offer}
 use Rattle.rules.specs.Pull.{Pull, paused, ends, pull}
 use Rattle.rules.specs.Bases.{judge}
-use Rattle.rules.specs.Call.{Reply, found, refused, ended, answer_of, refuse, over, end, loading, coming, afterPull, pulling, accept, judged, byStage, give}
+use Rattle.rules.specs.Call.{Reply, found, refused, ended, answer_of, refuse, over, end, loading, coming, after_pull, pulling, accept, judged, by_stage, give}
 use Rattle.rules.specs.Call as rules
 use Rattle.heads.specs.declared.Check.{Check}
 use Rattle.heads.specs.declared.Check.TheVariants as check
-use Rattle.heads.specs.View.{Cols, Heads, restsOf, fresh_of}
+use Rattle.heads.specs.View.{Cols, Heads, rests_of, fresh_of}
 use Rattle.heads.specs.Move.{Placed, Shaped}
-use Rattle.heads.specs.Load.{loadTo, LoadsAs}
-use Rattle.heads.proofs.CheckLaws.{check-fine, check-wrong}
-use Rattle.heads.proofs.LoadLaws.{Upto, loaded-upto, load-rests}
+use Rattle.heads.specs.Load.{load_to, LoadsAs}
+use Rattle.heads.proofs.CheckLaws.{check_fine, check_wrong}
+use Rattle.heads.proofs.LoadLaws.{Upto, loaded_upto, load_rests}
 use Rattle.queue.specs.declared.Ring.{Ring}
 use Rattle.queue.specs.Ring.{Cells, Fair, waiting}
 use Rattle.admit.specs.declared.Gate.{Gate}
 use Rattle.admit.specs.declared.Gate.TheVariants.{Open, Shut}
-use Rattle.admit.specs.Gates.{known, lengthsOf, last_of, gateOf}
+use Rattle.admit.specs.Gates.{known, lengths_of, last_of, gate_of}
 use Rattle.admit.specs.Fits.{Fits}
-use Rattle.admit.proofs.RightLaws.{right-fits}
-use Rattle.admit.proofs.GateLaws.{gate-open, gate-refuses}
+use Rattle.admit.proofs.RightLaws.{right_fits}
+use Rattle.admit.proofs.GateLaws.{gate_open, gate_refuses}
 use Rattle.pulls.specs.declared.Answered.{Answered}
-use Rattle.pulls.specs.Pulls.{drawnTo, Found, Lent, standsAt, FoundIn, SettlesIn, Settleable, SettlesAs}
+use Rattle.pulls.specs.Pulls.{drawn_to, Found, Lent, stands_at, FoundIn, SettlesIn, Settleable, SettlesAs}
 use Rattle.runs.specs.declared.Run.{Run}
 use Rattle.runs.specs.declared.Given.{Given}
-use Rattle.runs.specs.View.{headsOf, ringOf, stageOf, runIn, runWith, leftBy, run_of, held_of, overOf}
-use Rattle.runs.specs.Comes.{lens_of, rightOf, given_of}
-use Rattle.runs.proofs.ViewLaws.{over-view, over-held}
-use Rattle.step.specs.Settle.{endedBy, run_by, Going, Settles}
-use Rattle.step.specs.Give.{openedBy, Gives}
+use Rattle.runs.specs.View.{heads_of, ring_of, stage_of, run_in, run_with, left_by, run_of, held_of, over_of}
+use Rattle.runs.specs.Comes.{lens_of, right_of, given_of}
+use Rattle.runs.proofs.ViewLaws.{over_view, over_held}
+use Rattle.step.specs.Settle.{ended_by, run_by, Going, Settles}
+use Rattle.step.specs.Give.{opened_by, Gives}
 use Rattle.step.specs.Step.{Answerable, AnswersAs}
 
 -- ---- how a base stands
 
 -- what is answered by the tests that come before the pull
 abbrev pub Gated : Cols → List ℕ → Run → Base → Lent → Gate → Type 0
-Gated s lengths r b l g = g ≡ gateOf (rightOf s lengths r l) (judge (lengthsOf lengths) (last_of (stageOf r)) b)
+Gated s lengths r b l g = g ≡ gate_of (right_of s lengths r l) (judge (lengths_of lengths) (last_of (stage_of r)) b)
 
 -- a run that has accepted a base
 pub record Underway (r : Run) : Type 0 where
   pub last : Base
-  pub is : stageOf r ≡ After last
+  pub is : stage_of r ≡ After last
 
 -- ---- a run that goes on
 
-pub fresh-going : (r : Run) → stageOf r ≡ Fresh → Going (stageOf r)
-fresh-going r i = subst Going (sym i) tt
+pub fresh_going : (r : Run) → stage_of r ≡ Fresh → Going (stage_of r)
+fresh_going r i = subst Going (sym i) tt
 
-pub under-going : (r : Run) → Underway r → Going (stageOf r)
-under-going r w = subst Going (sym w.is) tt
+pub under_going : (r : Run) → Underway r → Going (stage_of r)
+under_going r w = subst Going (sym w.is) tt
 
 -- a run that goes on is ended
-pub ended-going : (t : Stage) (r : Run) (e : End) → Going t → endedBy t r e ≡ overOf r e
-ended-going Fresh r e g = refl
-ended-going (After p) r e g = refl
-ended-going (Over x) r e g = absurd g
+pub ended_going : (t : Stage) (r : Run) (e : End) → Going t → ended_by t r e ≡ over_of r e
+ended_going Fresh r e g = refl
+ended_going (After p) r e g = refl
+ended_going (Over x) r e g = absurd g
 
 -- ---- what a pull answers
 
@@ -87,7 +87,7 @@ Pulled (ended e) = Unit {0}
 unrefused : (t : Reply) (x : Refusal) → Pulled t → t ≡ refused x → ⊥
 unrefused t x p e = subst Pulled e p
 
-pulled : (rows : ℕ) (r : rules.Run) (b : Base) (p : Pull Record End) → Pulled (afterPull rows r b p).reply
+pulled : (rows : ℕ) (r : rules.Run) (b : Base) (p : Pull Record End) → Pulled (after_pull rows r b p).reply
 pulled rows r b (ends e) = tt
 pulled rows r b (paused ss w) = go (ltb rows (length (filter (overlaps b) w)))
   where
@@ -95,31 +95,31 @@ pulled rows r b (paused ss w) = go (ltb rows (length (filter (overlaps b) w)))
     go true = tt
     go false = tt
 
-pulling-pulled : (n Q rows : ℕ) (r : rules.Run) (b : Base) → Pulled (pulling n Q rows r b).reply
-pulling-pulled n Q rows r b = pulled rows r b (pull ahead (next n) NoRoom (taken b) (live b) Q r.left (filter (live b) r.queue))
+pulling_pulled : (n Q rows : ℕ) (r : rules.Run) (b : Base) → Pulled (pulling n Q rows r b).reply
+pulling_pulled n Q rows r b = pulled rows r b (pull ahead (next n) NoRoom (taken b) (live b) Q r.left (filter (live b) r.queue))
 
 -- ---- what an accepted base gets, told of the run
 
 -- an answer tells the reply
-reply-ended : (y : Reply) (e : End) → answer_of y ≡ answer.Ended e → y ≡ ended e
-reply-ended (found hits o) e i = let z : ◌≡◌ {A = ℕ} 0 1 = cc in absurd (omega arith)
-reply-ended (refused x) e i = let z : ◌≡◌ {A = ℕ} 0 1 = cc in absurd (omega arith)
-reply-ended (ended f) e i = let z : f ≡ e = cc in ap ended z
+reply_ended : (y : Reply) (e : End) → answer_of y ≡ answer.Ended e → y ≡ ended e
+reply_ended (found hits o) e i = let z : ◌≡◌ {A = ℕ} 0 1 = cc in absurd (omega arith)
+reply_ended (refused x) e i = let z : ◌≡◌ {A = ℕ} 0 1 = cc in absurd (omega arith)
+reply_ended (ended f) e i = let z : f ≡ e = cc in ap ended z
 
-reply-found : (y : Reply) (m : ℕ) (o : Offer) → answer_of y ≡ answer.Found m o → Found y
-reply-found (found hits p) m o i = tt
-reply-found (refused x) m o i = let z : ◌≡◌ {A = ℕ} 0 1 = cc in absurd (omega arith)
-reply-found (ended f) m o i = let z : ◌≡◌ {A = ℕ} 0 1 = cc in absurd (omega arith)
+reply_found : (y : Reply) (m : ℕ) (o : Offer) → answer_of y ≡ answer.Found m o → Found y
+reply_found (found hits p) m o i = tt
+reply_found (refused x) m o i = let z : ◌≡◌ {A = ℕ} 0 1 = cc in absurd (omega arith)
+reply_found (ended f) m o i = let z : ◌≡◌ {A = ℕ} 0 1 = cc in absurd (omega arith)
 
-reply-refused : (y : Reply) (x : Refusal) → answer_of y ≡ answer.Refused x → y ≡ refused x
-reply-refused (found hits p) x i = let z : ◌≡◌ {A = ℕ} 0 1 = cc in absurd (omega arith)
-reply-refused (refused w) x i = let z : w ≡ x = cc in ap refused z
-reply-refused (ended f) x i = let z : ◌≡◌ {A = ℕ} 0 1 = cc in absurd (omega arith)
+reply_refused : (y : Reply) (x : Refusal) → answer_of y ≡ answer.Refused x → y ≡ refused x
+reply_refused (found hits p) x i = let z : ◌≡◌ {A = ℕ} 0 1 = cc in absurd (omega arith)
+reply_refused (refused w) x i = let z : w ≡ x = cc in ap refused z
+reply_refused (ended f) x i = let z : ◌≡◌ {A = ℕ} 0 1 = cc in absurd (omega arith)
 
 -- the run after an end
-over-run : (rows : ℕ) (r : rules.Run) (b : Base) (p : Pull Record End) (e : End) → (afterPull rows r b p).reply ≡ ended e → (afterPull rows r b p).run ≡ over r e
-over-run rows r b (ends f) e i = let z : f ≡ e = cc in ap (over r) z
-over-run rows r b (paused ss w) e i = go (ltb rows (length (filter (overlaps b) w))) i
+over_run : (rows : ℕ) (r : rules.Run) (b : Base) (p : Pull Record End) (e : End) → (after_pull rows r b p).reply ≡ ended e → (after_pull rows r b p).run ≡ over r e
+over_run rows r b (ends f) e i = let z : f ≡ e = cc in ap (over r) z
+over_run rows r b (paused ss w) e i = go (ltb rows (length (filter (overlaps b) w))) i
   where
     at : Bool → rules.Given
     at t = cond t (end r NoRows) (record { run = record { left = ss; queue = w; stage = After b }; reply = found (filter (overlaps b) w) (offer (coming ss w) b) })
@@ -128,59 +128,59 @@ over-run rows r b (paused ss w) e i = go (ltb rows (length (filter (overlaps b) 
     go true j = let z : NoRows ≡ e = cc in ap (over r) z
     go false j = let z : ◌≡◌ {A = ℕ} 0 1 = cc in absurd (omega arith)
 
-found-run : (y : Reply) (b : Base) (h : Heads) (r : Run) (q : Ring) → Found y → run_by y b h r q ≡ runWith r h q (After b)
-found-run (found hits o) b h r q f = refl
-found-run (refused x) b h r q f = absurd f
-found-run (ended e) b h r q f = absurd f
+found_run : (y : Reply) (b : Base) (h : Heads) (r : Run) (q : Ring) → Found y → run_by y b h r q ≡ run_with r h q (After b)
+found_run (found hits o) b h r q f = refl
+found_run (refused x) b h r q f = absurd f
+found_run (ended e) b h r q f = absurd f
 
-pub settleable : (s : Cols) (r : Run) (l : Lent) → Answerable s r l → Shaped (headsOf r) → Settleable s (headsOf r) (ringOf r) l
+pub settleable : (s : Cols) (r : Run) (l : Lent) → Answerable s r l → Shaped (heads_of r) → Settleable s (heads_of r) (ring_of r) l
 settleable s r l z w = record { shaped = w; placed = z.placed; fair = z.fair; answers = z.answers }
 
-module _ (s : Cols) (r : Run) (b : Base) (l : Lent) (z : Answerable s r l) (a : Answered) (h' : Heads) (l' : Lent) (k : SettlesAs s r.settings.chroms (headsOf r) b (ringOf r) l a h' l') where
+module _ (s : Cols) (r : Run) (b : Base) (l : Lent) (z : Answerable s r l) (a : Answered) (h' : Heads) (l' : Lent) (k : SettlesAs s r.settings.chroms (heads_of r) b (ring_of r) l a h' l') where
   abbrev T : rules.Given
   T = pulling r.settings.chroms r.settings.room (length l.answers) (held_of s l.cells r) b
 
   -- how the run stands is not looked at
-  same-pull : pulling r.settings.chroms r.settings.room (length l.answers) (standsAt s (headsOf r) (ringOf r) l.cells b) b ≡ T
-  same-pull = go (pull ahead (next r.settings.chroms) NoRoom (taken b) (live b) r.settings.room (restsOf s (headsOf r)) (filter (live b) (waiting (ringOf r) l.cells)))
+  same_pull : pulling r.settings.chroms r.settings.room (length l.answers) (stands_at s (heads_of r) (ring_of r) l.cells b) b ≡ T
+  same_pull = go (pull ahead (next r.settings.chroms) NoRoom (taken b) (live b) r.settings.room (rests_of s (heads_of r)) (filter (live b) (waiting (ring_of r) l.cells)))
     where
-      go : (p : Pull Record End) → afterPull (length l.answers) (standsAt s (headsOf r) (ringOf r) l.cells b) b p ≡ afterPull (length l.answers) (held_of s l.cells r) b p
+      go : (p : Pull Record End) → after_pull (length l.answers) (stands_at s (heads_of r) (ring_of r) l.cells b) b p ≡ after_pull (length l.answers) (held_of s l.cells r) b p
       go (ends e) = refl
       go (paused ss v) = refl
 
-  settled-in : SettlesIn s r.settings.chroms b (headsOf r) r.settings.room T l a h' l'
-  settled-in = subst (λ (t : rules.Given). SettlesIn s r.settings.chroms b (headsOf r) r.settings.room t l a h' l') same-pull k
+  settled_in : SettlesIn s r.settings.chroms b (heads_of r) r.settings.room T l a h' l'
+  settled_in = subst (λ (t : rules.Given). SettlesIn s r.settings.chroms b (heads_of r) r.settings.room t l a h' l') same_pull k
 
-  pub ends_as : (e : End) → a.answer ≡ answer.Ended e → (g : Given) → g ≡ record { run = overOf r e; answer = answer.Ended e } → AnswersAs s r b l g l'
+  pub ends_as : (e : End) → a.answer ≡ answer.Ended e → (g : Given) → g ≡ record { run = over_of r e; answer = answer.Ended e } → AnswersAs s r b l g l'
   ends_as e i g gs =
-      let is : T.reply ≡ ended e = reply-ended T.reply e (sym settled-in.answer ∙ i) in
+      let is : T.reply ≡ ended e = reply_ended T.reply e (sym settled_in.answer ∙ i) in
       subst (λ (x : Given). AnswersAs s r b l x l') (sym gs) (record {
-        answer = sym i ∙ settled-in.answer;
-        run = over-held s l.cells l'.cells r e z.placed.few ∙ sym (over-run (length l.answers) (held_of s l.cells r) b (pull ahead (next r.settings.chroms) NoRoom (taken b) (live b) r.settings.room (restsOf s (headsOf r)) (filter (live b) (waiting (ringOf r) l.cells))) e is);
-        exact = sym (ended-going (stageOf r) r e z.going) ∙ ap (λ (y : Reply). run_by y b (drawnTo s r.settings.chroms b (headsOf r)) r (ringOf (overOf r e))) (sym is);
+        answer = sym i ∙ settled_in.answer;
+        run = over_held s l.cells l'.cells r e z.placed.few ∙ sym (over_run (length l.answers) (held_of s l.cells r) b (pull ahead (next r.settings.chroms) NoRoom (taken b) (live b) r.settings.room (rests_of s (heads_of r)) (filter (live b) (waiting (ring_of r) l.cells))) e is);
+        exact = sym (ended_going (stage_of r) r e z.going) ∙ ap (λ (y : Reply). run_by y b (drawn_to s r.settings.chroms b (heads_of r)) r (ring_of (over_of r e))) (sym is);
         room = refl;
         fair = λ y. absurd (subst Found is y);
-        kept = settled-in.kept;
-        answers = settled-in.answers;
+        kept = settled_in.kept;
+        answers = settled_in.answers;
       })
 
-  pub found_as : (m : ℕ) (o : Offer) → a.answer ≡ answer.Found m o → (u : Run) → u ≡ runWith r h' a.ring (After b) → AnswersAs s r b l (record { run = u; answer = answer.Found m o }) l'
+  pub found_as : (m : ℕ) (o : Offer) → a.answer ≡ answer.Found m o → (u : Run) → u ≡ run_with r h' a.ring (After b) → AnswersAs s r b l (record { run = u; answer = answer.Found m o }) l'
   found_as m o i u us =
-      let f : Found T.reply = reply-found T.reply m o (sym settled-in.answer ∙ i) in
-      let g : FoundIn s r.settings.chroms b (headsOf r) r.settings.room T a.ring h' l'.cells = settled-in.found f in
+      let f : Found T.reply = reply_found T.reply m o (sym settled_in.answer ∙ i) in
+      let g : FoundIn s r.settings.chroms b (heads_of r) r.settings.room T a.ring h' l'.cells = settled_in.found f in
       subst (λ (x : Run). AnswersAs s r b l (record { run = x; answer = answer.Found m o }) l') (sym us) (record {
-        answer = sym i ∙ settled-in.answer;
+        answer = sym i ∙ settled_in.answer;
         run = g.run;
-        exact = ap (λ (x : Heads). runWith r x a.ring (After b)) g.heads ∙ sym (found-run T.reply b (drawnTo s r.settings.chroms b (headsOf r)) r a.ring f);
+        exact = ap (λ (x : Heads). run_with r x a.ring (After b)) g.heads ∙ sym (found_run T.reply b (drawn_to s r.settings.chroms b (heads_of r)) r a.ring f);
         room = g.room;
         fair = λ y. g.fair;
-        kept = settled-in.kept;
-        answers = settled-in.answers;
+        kept = settled_in.kept;
+        answers = settled_in.answers;
       })
 
   -- an accepted base is not refused
-  pub not-refused : (x : Refusal) → a.answer ≡ answer.Refused x → ⊥
-  not-refused x i = unrefused T.reply x (pulling-pulled r.settings.chroms r.settings.room (length l.answers) (held_of s l.cells r) b) (reply-refused T.reply x (sym settled-in.answer ∙ i))
+  pub not_refused : (x : Refusal) → a.answer ≡ answer.Refused x → ⊥
+  not_refused x i = unrefused T.reply x (pulling_pulled r.settings.chroms r.settings.room (length l.answers) (held_of s l.cells r) b) (reply_refused T.reply x (sym settled_in.answer ∙ i))
 
 -- ---- the tests before the pull, and the call
 
@@ -190,36 +190,36 @@ module _ (s : Cols) (lengths : List ℕ) (r : Run) (b : Base) (l : Lent) where
 
   -- the number of chromosomes by the rules
   abbrev N : ℕ
-  N = length (lengthsOf lengths)
+  N = length (lengths_of lengths)
 
   -- what a base comes to, by how the run stands
-  given-fresh : stageOf r ≡ Fresh → given_of s lengths r b l ≡ cond (rightOf s lengths r l) (judged N r.settings.room (length l.answers) R b (loading N R.left) (judge (lengthsOf lengths) none b)) (refuse R Sizes)
+  given_fresh : stage_of r ≡ Fresh → given_of s lengths r b l ≡ cond (right_of s lengths r l) (judged N r.settings.room (length l.answers) R b (loading N R.left) (judge (lengths_of lengths) none b)) (refuse R Sizes)
   unfolding give
-  given-fresh i = ap (byStage (lengthsOf lengths) r.settings.room (record { right = rightOf s lengths r l; rows = length l.answers }) R b) i
+  given_fresh i = ap (by_stage (lengths_of lengths) r.settings.room (record { right = right_of s lengths r l; rows = length l.answers }) R b) i
 
-  given-after : (p : Base) → stageOf r ≡ After p → given_of s lengths r b l ≡ cond (rightOf s lengths r l) (judged N r.settings.room (length l.answers) R b none (judge (lengthsOf lengths) (some p) b)) (refuse R Sizes)
+  given_after : (p : Base) → stage_of r ≡ After p → given_of s lengths r b l ≡ cond (right_of s lengths r l) (judged N r.settings.room (length l.answers) R b none (judge (lengths_of lengths) (some p) b)) (refuse R Sizes)
   unfolding give
-  given-after p i = ap (byStage (lengthsOf lengths) r.settings.room (record { right = rightOf s lengths r l; rows = length l.answers }) R b) i
+  given_after p i = ap (by_stage (lengths_of lengths) r.settings.room (record { right = right_of s lengths r l; rows = length l.answers }) R b) i
 
-  given-over : (e : End) → stageOf r ≡ Over e → given_of s lengths r b l ≡ record { run = R; reply = ended e }
+  given_over : (e : End) → stage_of r ≡ Over e → given_of s lengths r b l ≡ record { run = R; reply = ended e }
   unfolding give
-  given-over e i = ap (byStage (lengthsOf lengths) r.settings.room (record { right = rightOf s lengths r l; rows = length l.answers }) R b) i
+  given_over e i = ap (by_stage (lengths_of lengths) r.settings.room (record { right = right_of s lengths r l; rows = length l.answers }) R b) i
 
   -- the gate, by how the run stands
-  gate-at : (g : Gate) (t : Stage) → stageOf r ≡ t → Gated s lengths r b l g → g ≡ gateOf (rightOf s lengths r l) (judge (lengthsOf lengths) (last_of t) b)
-  gate-at g t i e = e ∙ ap (λ (x : Stage). gateOf (rightOf s lengths r l) (judge (lengthsOf lengths) (last_of x) b)) i
+  gate_at : (g : Gate) (t : Stage) → stage_of r ≡ t → Gated s lengths r b l g → g ≡ gate_of (right_of s lengths r l) (judge (lengths_of lengths) (last_of t) b)
+  gate_at g t i e = e ∙ ap (λ (x : Stage). gate_of (right_of s lengths r l) (judge (lengths_of lengths) (last_of x) b)) i
 
   -- a base that is refused
-  shut-so : (t : Stage) → stageOf r ≡ t → Going t → (x : Refusal) → Gated s lengths r b l (Shut x) → given_of s lengths r b l ≡ refuse R x
-  shut-so Fresh i g x e = given-fresh i ∙ gate-refuses (rightOf s lengths r l) (judge (lengthsOf lengths) none b) N r.settings.room (length l.answers) R b (loading N R.left) x (sym (gate-at (Shut x) Fresh i e))
-  shut-so (After p) i g x e = given-after p i ∙ gate-refuses (rightOf s lengths r l) (judge (lengthsOf lengths) (some p) b) N r.settings.room (length l.answers) R b none x (sym (gate-at (Shut x) (After p) i e))
-  shut-so (Over y) i g x e = absurd g
+  shut_so : (t : Stage) → stage_of r ≡ t → Going t → (x : Refusal) → Gated s lengths r b l (Shut x) → given_of s lengths r b l ≡ refuse R x
+  shut_so Fresh i g x e = given_fresh i ∙ gate_refuses (right_of s lengths r l) (judge (lengths_of lengths) none b) N r.settings.room (length l.answers) R b (loading N R.left) x (sym (gate_at (Shut x) Fresh i e))
+  shut_so (After p) i g x e = given_after p i ∙ gate_refuses (right_of s lengths r l) (judge (lengths_of lengths) (some p) b) N r.settings.room (length l.answers) R b none x (sym (gate_at (Shut x) (After p) i e))
+  shut_so (Over y) i g x e = absurd g
 
   -- 1
-  wrong-given : (t : Stage) → stageOf r ≡ t → Going t → rightOf s lengths r l ≡ false → given_of s lengths r b l ≡ refuse R Sizes
-  wrong-given Fresh i g e = given-fresh i ∙ rw e
-  wrong-given (After p) i g e = given-after p i ∙ rw e
-  wrong-given (Over y) i g e = absurd g
+  wrong_given : (t : Stage) → stage_of r ≡ t → Going t → right_of s lengths r l ≡ false → given_of s lengths r b l ≡ refuse R Sizes
+  wrong_given Fresh i g e = given_fresh i ∙ rw e
+  wrong_given (After p) i g e = given_after p i ∙ rw e
+  wrong_given (Over y) i g e = absurd g
 
   unchanged : (x : Refusal) → given_of s lengths r b l ≡ refuse R x → Gives s lengths r b l (record { run = r; answer = answer.Refused x }) l
   unchanged x is = record {
@@ -229,16 +229,16 @@ module _ (s : Cols) (lengths : List ℕ) (r : Run) (b : Base) (l : Lent) where
   }
 
   -- "run unchanged", and all that was lent
-  pub refused-so : Going (stageOf r) → (k : Gate) → Gated s lengths r b l k → (x : Refusal) → k ≡ Shut x → Gives s lengths r b l (record { run = r; answer = answer.Refused x }) l
-  refused-so g k e x i = unchanged x (shut-so (stageOf r) refl g x (rw i at e))
+  pub refused_so : Going (stage_of r) → (k : Gate) → Gated s lengths r b l k → (x : Refusal) → k ≡ Shut x → Gives s lengths r b l (record { run = r; answer = answer.Refused x }) l
+  refused_so g k e x i = unchanged x (shut_so (stage_of r) refl g x (rw i at e))
 
-  pub wrong-so : Going (stageOf r) → rightOf s lengths r l ≡ false → Gives s lengths r b l (record { run = r; answer = answer.Refused Sizes }) l
-  wrong-so g e = unchanged Sizes (wrong-given (stageOf r) refl g e)
+  pub wrong_so : Going (stage_of r) → right_of s lengths r l ≡ false → Gives s lengths r b l (record { run = r; answer = answer.Refused Sizes }) l
+  wrong_so g e = unchanged Sizes (wrong_given (stage_of r) refl g e)
 
   -- "an ended run first (its old answer again)"
-  pub over-so : (e : End) → stageOf r ≡ Over e → Gives s lengths r b l (record { run = r; answer = answer.Ended e }) l
-  over-so e i = record {
-    settles = rw (given-over e i) (record { answer = refl; run = refl; exact = ap (λ (t : Stage). endedBy t r e) (sym i); room = refl; fair = λ z. absurd z; kept = refl; answers = refl });
+  pub over_so : (e : End) → stage_of r ≡ Over e → Gives s lengths r b l (record { run = r; answer = answer.Ended e }) l
+  over_so e i = record {
+    settles = rw (given_over e i) (record { answer = refl; run = refl; exact = ap (λ (t : Stage). ended_by t r e) (sym i); room = refl; fair = λ z. absurd z; kept = refl; answers = refl });
     still = λ y z. refl;
     again = λ y z. refl;
   }
@@ -246,67 +246,67 @@ module _ (s : Cols) (lengths : List ℕ) (r : Run) (b : Base) (l : Lent) where
   -- ---- an accepted base
 
   module _ (k : Gate) (gated : Gated s lengths r b l k) (opened : k ≡ Open) where
-    opens_at : (t : Stage) → stageOf r ≡ t → (rightOf s lengths r l ≡ true) × (judge (lengthsOf lengths) (last_of t) b ≡ none)
-    opens_at t i = gate-open (rightOf s lengths r l) (judge (lengthsOf lengths) (last_of t) b) (sym (gate-at k t i gated) ∙ opened)
+    opens_at : (t : Stage) → stage_of r ≡ t → (right_of s lengths r l ≡ true) × (judge (lengths_of lengths) (last_of t) b ≡ none)
+    opens_at t i = gate_open (right_of s lengths r l) (judge (lengths_of lengths) (last_of t) b) (sym (gate_at k t i gated) ∙ opened)
 
-    pub fits : Fits (lens_of s lengths l) r.settings.streams r.settings.chroms (ringOf r) r.ended r.row r.next r.from r.to l.cells
+    pub fits : Fits (lens_of s lengths l) r.settings.streams r.settings.chroms (ring_of r) r.ended r.row r.next r.from r.to l.cells
     fits =
-        right-fits (lens_of s lengths l) r.settings.streams r.settings.chroms (ringOf r) r.ended r.row r.next r.from r.to l.cells
-        refl (opens_at (stageOf r) refl).0
+        right_fits (lens_of s lengths l) r.settings.streams r.settings.chroms (ring_of r) r.ended r.row r.next r.from r.to l.cells
+        refl (opens_at (stage_of r) refl).0
 
-    chroms-so : N ≡ r.settings.chroms
-    chroms-so = length-map lengths known ∙ fits.lengths
+    chroms_so : N ≡ r.settings.chroms
+    chroms_so = length-map lengths known ∙ fits.lengths
 
     -- a run whose heads are loaded, with the same rows and the same room
-    pub answerable : (u : Run) → Going (stageOf u) → Placed s u.settings.streams u.next u.from u.to → ringOf u ≡ ringOf r → Answerable s u l
+    pub answerable : (u : Run) → Going (stage_of u) → Placed s u.settings.streams u.next u.from u.to → ring_of u ≡ ring_of r → Answerable s u l
     answerable u g p i = record { going = g; placed = p; fair = subst (λ (q : Ring). Fair q l.cells) (sym i) fits.fair; answers = subst (λ (q : Ring). q.room ≤ length l.answers) (sym i) fits.answer }
 
     -- t is what the base comes to, from the heads h
-    settled : (t : rules.Given) → given_of s lengths r b l ≡ t → Pulled t.reply → Going (stageOf r) → (h : Heads) → openedBy (stageOf r) s (headsOf r) ≡ h
-        → (g : Given) (l' : Lent) → Settles s b (drawnTo s r.settings.chroms b h) r t l g l' → Gives s lengths r b l g l'
+    settled : (t : rules.Given) → given_of s lengths r b l ≡ t → Pulled t.reply → Going (stage_of r) → (h : Heads) → opened_by (stage_of r) s (heads_of r) ≡ h
+        → (g : Given) (l' : Lent) → Settles s b (drawn_to s r.settings.chroms b h) r t l g l' → Gives s lengths r b l g l'
     settled t is p z h o g l' a = record {
       settles =
-          subst (λ (x : Heads). Settles s b (drawnTo s r.settings.chroms b x) r (given_of s lengths r b l) l g l') (sym o)
-          (subst (λ (x : rules.Given). Settles s b (drawnTo s r.settings.chroms b h) r x l g l') (sym is) a);
+          subst (λ (x : Heads). Settles s b (drawn_to s r.settings.chroms b x) r (given_of s lengths r b l) l g l') (sym o)
+          (subst (λ (x : rules.Given). Settles s b (drawn_to s r.settings.chroms b h) r x l g l') (sym is) a);
       still = λ x e. absurd (unrefused t.reply x p (ap (λ (y : rules.Given). y.reply) (sym is) ∙ e));
       again = λ e i. absurd (subst Going i z);
     }
 
     -- a base after the first
-    pub further-so : Underway r → (g : Given) (l' : Lent) → AnswersAs s r b l g l' → Gives s lengths r b l g l'
-    further-so w g l' a =
-        let held : held_of s l.cells r ≡ R = ap (λ (t : Stage). record { left = leftBy t s (headsOf r); queue = waiting (ringOf r) l.cells; stage = stageOf r }) (sym w.is) in
-        let at : (rightOf s lengths r l ≡ true) × (judge (lengthsOf lengths) (some w.last) b ≡ none) = opens_at (After w.last) w.is in
+    pub further_so : Underway r → (g : Given) (l' : Lent) → AnswersAs s r b l g l' → Gives s lengths r b l g l'
+    further_so w g l' a =
+        let held : held_of s l.cells r ≡ R = ap (λ (t : Stage). record { left = left_by t s (heads_of r); queue = waiting (ring_of r) l.cells; stage = stage_of r }) (sym w.is) in
+        let at : (right_of s lengths r l ≡ true) × (judge (lengths_of lengths) (some w.last) b ≡ none) = opens_at (After w.last) w.is in
         let is : given_of s lengths r b l ≡ pulling r.settings.chroms r.settings.room (length l.answers) (held_of s l.cells r) b =
-        given-after w.last w.is ∙ rw (at.0, at.1, chroms-so) (ap (λ (x : rules.Run). pulling r.settings.chroms r.settings.room (length l.answers) x b) (sym held)) in
-        settled (pulling r.settings.chroms r.settings.room (length l.answers) (held_of s l.cells r) b) is (pulling-pulled r.settings.chroms r.settings.room (length l.answers) (held_of s l.cells r) b) (under-going r w) (headsOf r)
-        (ap (λ (t : Stage). openedBy t s (headsOf r)) w.is) g l' a
+        given_after w.last w.is ∙ rw (at.0, at.1, chroms_so) (ap (λ (x : rules.Run). pulling r.settings.chroms r.settings.room (length l.answers) x b) (sym held)) in
+        settled (pulling r.settings.chroms r.settings.room (length l.answers) (held_of s l.cells r) b) is (pulling_pulled r.settings.chroms r.settings.room (length l.answers) (held_of s l.cells r) b) (under_going r w) (heads_of r)
+        (ap (λ (t : Stage). opened_by t s (heads_of r)) w.is) g l' a
 
     -- ---- the first base
 
     -- h: the heads after the loading, w: what was wrong
-    module _ (fresh : stageOf r ≡ Fresh) (shaped : Shaped (headsOf r)) (w : Check) (h : Heads) (loads : LoadsAs s r.settings.chroms (headsOf r) w h) where
-      goes : Going (stageOf r)
-      goes = fresh-going r fresh
+    module _ (fresh : stage_of r ≡ Fresh) (shaped : Shaped (heads_of r)) (w : Check) (h : Heads) (loads : LoadsAs s r.settings.chroms (heads_of r) w h) where
+      goes : Going (stage_of r)
+      goes = fresh_going r fresh
 
       -- what is left is all rows
-      lefts : R.left ≡ fresh_of s (headsOf r)
-      lefts = ap (λ (t : Stage). leftBy t s (headsOf r)) fresh
+      lefts : R.left ≡ fresh_of s (heads_of r)
+      lefts = ap (λ (t : Stage). left_by t s (heads_of r)) fresh
 
-      first-given : given_of s lengths r b l ≡ accept r.settings.chroms r.settings.room (length l.answers) R b (loading r.settings.chroms (fresh_of s (headsOf r)))
-      first-given =
-          let at : (rightOf s lengths r l ≡ true) × (judge (lengthsOf lengths) none b ≡ none) = opens_at Fresh fresh in
-          given-fresh fresh ∙ rw (at.0, at.1, chroms-so, lefts)
+      first_given : given_of s lengths r b l ≡ accept r.settings.chroms r.settings.room (length l.answers) R b (loading r.settings.chroms (fresh_of s (heads_of r)))
+      first_given =
+          let at : (right_of s lengths r l ≡ true) × (judge (lengths_of lengths) none b ≡ none) = opens_at Fresh fresh in
+          given_fresh fresh ∙ rw (at.0, at.1, chroms_so, lefts)
 
       -- the first fault ends the run
-      pub first-wrong : (e : End) → w ≡ check.Wrong e → Gives s lengths r b l (record { run = overOf r e; answer = answer.Ended e }) l
-      first-wrong e i =
-          let is : given_of s lengths r b l ≡ end R e = first-given ∙ ap (accept r.settings.chroms r.settings.room (length l.answers) R b) (check-wrong (loading r.settings.chroms (fresh_of s (headsOf r))) e (sym loads.check ∙ i)) in
-          settled (end R e) is tt goes (openedBy (stageOf r) s (headsOf r)) refl (record { run = overOf r e; answer = answer.Ended e }) l
+      pub first_wrong : (e : End) → w ≡ check.Wrong e → Gives s lengths r b l (record { run = over_of r e; answer = answer.Ended e }) l
+      first_wrong e i =
+          let is : given_of s lengths r b l ≡ end R e = first_given ∙ ap (accept r.settings.chroms r.settings.room (length l.answers) R b) (check_wrong (loading r.settings.chroms (fresh_of s (heads_of r))) e (sym loads.check ∙ i)) in
+          settled (end R e) is tt goes (opened_by (stage_of r) s (heads_of r)) refl (record { run = over_of r e; answer = answer.Ended e }) l
           (record {
             answer = refl;
-            run = over-view s l.cells l.cells r e fits.few;
-            exact = sym (ended-going (stageOf r) r e goes);
+            run = over_view s l.cells l.cells r e fits.few;
+            exact = sym (ended_going (stage_of r) r e goes);
             room = refl;
             fair = λ z. absurd z;
             kept = refl;
@@ -316,46 +316,46 @@ module _ (s : Cols) (lengths : List ℕ) (r : Run) (b : Base) (l : Lent) where
       -- the run u with its heads loaded goes on
       module _ (fine : w ≡ check.Fine) where
         abbrev u : Run
-        u = runIn h r.settings.chroms (ringOf r) r.mark
+        u = run_in h r.settings.chroms (ring_of r) r.mark
 
-        nothing-wrong : loading r.settings.chroms (fresh_of s (headsOf r)) ≡ none
-        nothing-wrong = check-fine (loading r.settings.chroms (fresh_of s (headsOf r))) (sym loads.check ∙ fine)
+        nothing_wrong : loading r.settings.chroms (fresh_of s (heads_of r)) ≡ none
+        nothing_wrong = check_fine (loading r.settings.chroms (fresh_of s (heads_of r))) (sym loads.check ∙ fine)
 
-        loaded : h ≡ loadTo s (headsOf r) r.settings.streams
-        loaded = loads.heads nothing-wrong
+        loaded : h ≡ load_to s (heads_of r) r.settings.streams
+        loaded = loads.heads nothing_wrong
 
-        up : Upto s (headsOf r) h r.settings.streams
-        up = loaded-upto s (headsOf r) shaped fits.placed r.settings.chroms w h loads fine
+        up : Upto s (heads_of r) h r.settings.streams
+        up = loaded_upto s (heads_of r) shaped fits.placed r.settings.chroms w h loads fine
 
-        pub first-shaped : Shaped h
-        first-shaped = up.shaped
+        pub first_shaped : Shaped h
+        first_shaped = up.shaped
 
-        pub first-answerable : Answerable s u l
-        first-answerable = answerable u goes up.placed refl
+        pub first_answerable : Answerable s u l
+        first_answerable = answerable u goes up.placed refl
 
         held_first : held_of s l.cells u ≡ R
-        held_first = ap (λ (x : List (List Record)). record { left = x; queue = waiting (ringOf r) l.cells; stage = stageOf r }) (ap (restsOf s) loaded ∙ load-rests s (headsOf r) shaped fits.placed ∙ sym lefts)
+        held_first = ap (λ (x : List (List Record)). record { left = x; queue = waiting (ring_of r) l.cells; stage = stage_of r }) (ap (rests_of s) loaded ∙ load_rests s (heads_of r) shaped fits.placed ∙ sym lefts)
 
-        pub over-same : (e : End) → overOf u e ≡ overOf r e
-        over-same e = rw (up.from, up.to, up.streams)
+        pub over_same : (e : End) → over_of u e ≡ over_of r e
+        over_same e = rw (up.from, up.to, up.streams)
 
-        run-same : (t : Reply) → Pulled t → (g : Heads) (q : Ring) → run_by t b g u q ≡ run_by t b g r q
-        run-same (found hits y) p g q = refl
-        run-same (refused x) p g q = absurd p
-        run-same (ended e) p g q = ended-going (stageOf u) u e goes ∙ over-same e ∙ sym (ended-going (stageOf r) r e goes)
+        run_same : (t : Reply) → Pulled t → (g : Heads) (q : Ring) → run_by t b g u q ≡ run_by t b g r q
+        run_same (found hits y) p g q = refl
+        run_same (refused x) p g q = absurd p
+        run_same (ended e) p g q = ended_going (stage_of u) u e goes ∙ over_same e ∙ sym (ended_going (stage_of r) r e goes)
 
         pub first_so : (g : Given) (l' : Lent) → AnswersAs s u b l g l' → Gives s lengths r b l g l'
         first_so g l' a =
             let t : rules.Given = pulling r.settings.chroms r.settings.room (length l.answers) (held_of s l.cells u) b in
             let is : given_of s lengths r b l ≡ t =
-            first-given ∙ ap (accept r.settings.chroms r.settings.room (length l.answers) R b) nothing-wrong
+            first_given ∙ ap (accept r.settings.chroms r.settings.room (length l.answers) R b) nothing_wrong
             ∙ ap (λ (x : rules.Run). pulling r.settings.chroms r.settings.room (length l.answers) x b) (sym held_first) in
-            let p : Pulled t.reply = pulling-pulled r.settings.chroms r.settings.room (length l.answers) (held_of s l.cells u) b in
-            settled t is p goes h (ap (λ (x : Stage). openedBy x s (headsOf r)) fresh ∙ sym loaded) g l'
+            let p : Pulled t.reply = pulling_pulled r.settings.chroms r.settings.room (length l.answers) (held_of s l.cells u) b in
+            settled t is p goes h (ap (λ (x : Stage). opened_by x s (heads_of r)) fresh ∙ sym loaded) g l'
             (record {
               answer = a.answer;
               run = a.run;
-              exact = a.exact ∙ run-same t.reply p (drawnTo s r.settings.chroms b h) (ringOf g.run);
+              exact = a.exact ∙ run_same t.reply p (drawn_to s r.settings.chroms b h) (ring_of g.run);
               room = a.room;
               fair = a.fair;
               kept = a.kept;

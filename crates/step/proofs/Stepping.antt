@@ -18,29 +18,29 @@ use Rattle.heads.specs.View.{Cols, Heads}
 use Rattle.heads.specs.Load.{Loadable, LoadsAs}
 use Rattle.admit.specs.declared.Gate.{Gate}
 use Rattle.admit.specs.declared.Gate.TheVariants.{Open, Shut}
-use Rattle.admit.specs.Gates.{lengthsOf, last_of, judgedOf, gateOf}
+use Rattle.admit.specs.Gates.{lengths_of, last_of, judged_of, gate_of}
 use Rattle.pulls.specs.declared.Answered.{Answered}
 use Rattle.pulls.specs.Pulls.{Lent, Settleable, SettlesAs}
 use Rattle.runs.specs.declared.Run.{Run}
 use Rattle.runs.specs.declared.Given.{Given}
-use Rattle.runs.specs.Marks.{stageIn, markOf}
-use Rattle.runs.specs.View.{headsOf, ringOf, stageOf, runIn, overOf}
+use Rattle.runs.specs.Marks.{stage_in, mark_of}
+use Rattle.runs.specs.View.{heads_of, ring_of, stage_of, run_in, over_of}
 use Rattle.step.specs.declared.State.{State}
 use Rattle.step.specs.Settle.{Going}
 use Rattle.step.specs.Give.{Gives}
 use Rattle.step.specs.Step.{Answerable, KeepsHeads, OpensAs, run_at, Ready, Steps}
-use Rattle.step.proofs.Giving.{Gated, refused-so, fits, answerable, settleable, ends_as, found_as, not-refused, further-so, first-wrong, first-shaped, first-answerable, over-same, first_so}
+use Rattle.step.proofs.Giving.{Gated, refused_so, fits, answerable, settleable, ends_as, found_as, not_refused, further_so, first_wrong, first_shaped, first_answerable, over_same, first_so}
 
 -- how the run stands, by another name
 pub opens_by : {t u : Stage} {s : Cols} {n : ℕ} {h g : Heads} {w : Check} → OpensAs t s n h w g → t ≡ u → OpensAs u s n h w g
 opens_by {s} {n} {h} {g} {w} x e = subst (λ (y : Stage). OpensAs y s n h w g) e x
 
 -- the heads that were loaded, or that were there
-pub opens-first : {t : Stage} {s : Cols} {n m : ℕ} {h g : Heads} {w : Check} → t ≡ Fresh → LoadsAs s n h w g → n ≡ m → OpensAs t s m h w g
-opens-first {s} {m} {h} {g} {w} i x e = record { first = λ j. subst (λ (k : ℕ). LoadsAs s k h w g) e x; later = λ p j. let z : Fresh ≡ After p = sym i ∙ j in let y : ◌≡◌ {A = ℕ} 0 1 = cc in absurd (omega arith) }
+pub opens_first : {t : Stage} {s : Cols} {n m : ℕ} {h g : Heads} {w : Check} → t ≡ Fresh → LoadsAs s n h w g → n ≡ m → OpensAs t s m h w g
+opens_first {s} {m} {h} {g} {w} i x e = record { first = λ j. subst (λ (k : ℕ). LoadsAs s k h w g) e x; later = λ p j. let z : Fresh ≡ After p = sym i ∙ j in let y : ◌≡◌ {A = ℕ} 0 1 = cc in absurd (omega arith) }
 
-pub opens-later : {t : Stage} {s : Cols} {n : ℕ} {h : Heads} → (t ≡ Fresh → ⊥) → OpensAs t s n h check.Fine h
-opens-later f = record { first = λ j. absurd (f j); later = λ p j. record { check = refl; heads = refl } }
+pub opens_later : {t : Stage} {s : Cols} {n : ℕ} {h : Heads} → (t ≡ Fresh → ⊥) → OpensAs t s n h check.Fine h
+opens_later f = record { first = λ j. absurd (f j); later = λ p j. record { check = refl; heads = refl } }
 
 module _ (s : Cols) (lengths : List ℕ) (h : Heads) (x : State) (b : Base) (l : Lent) (z : Ready s lengths h x l) where
   abbrev r : Run
@@ -48,16 +48,16 @@ module _ (s : Cols) (lengths : List ℕ) (h : Heads) (x : State) (b : Base) (l :
 
   -- what the rules judge
   abbrev Judged : Gate → Type 0
-  Judged k = k ≡ judgedOf (judge (lengthsOf lengths) (last_of (stageIn x.mark)) b)
+  Judged k = k ≡ judged_of (judge (lengths_of lengths) (last_of (stage_in x.mark)) b)
 
   gated : (k : Gate) → Judged k → Gated s lengths r b l k
-  gated k e = e ∙ ap (λ (t : Bool). gateOf t (judge (lengthsOf lengths) (last_of (stageIn x.mark)) b)) (sym z.right)
+  gated k e = e ∙ ap (λ (t : Bool). gate_of t (judge (lengths_of lengths) (last_of (stage_in x.mark)) b)) (sym z.right)
 
   -- 4, 6, 3 or 5
   pub refuses : (k : Gate) → Judged k → (y : Refusal) → k ≡ Shut y → Steps s lengths h x b l (record { ring = x.ring; answer = answer.Refused y }) h l
   refuses k e y i = record {
     found = λ m o j. let v : ◌≡◌ {A = ℕ} 0 1 = cc in absurd (omega arith);
-    refused = λ w j. let v : y ≡ w = cc in subst (λ (u : Refusal). Gives s lengths r b l (record { run = r; answer = answer.Refused u }) l) v (refused-so s lengths r b l z.going k (gated k e) y i);
+    refused = λ w j. let v : y ≡ w = cc in subst (λ (u : Refusal). Gives s lengths r b l (record { run = r; answer = answer.Refused u }) l) v (refused_so s lengths r b l z.going k (gated k e) y i);
     ended = λ f j. let v : ◌≡◌ {A = ℕ} 0 1 = cc in absurd (omega arith);
   }
 
@@ -67,61 +67,61 @@ module _ (s : Cols) (lengths : List ℕ) (h : Heads) (x : State) (b : Base) (l :
     loadable = record { shaped = z.shaped; placed = (fits s lengths r b l k (gated k e) opened).placed }
 
     -- w is what was wrong with a first row, and g are the heads
-    module _ (w : Check) (g : Heads) (opens : OpensAs (stageIn x.mark) s x.fixed.chroms h w g) where
-      ends-only : (f : End) (q : Heads) → Gives s lengths r b l (record { run = overOf r f; answer = answer.Ended f }) l → Steps s lengths h x b l (record { ring = x.ring; answer = answer.Ended f }) q l
-      ends-only f q y = record {
+    module _ (w : Check) (g : Heads) (opens : OpensAs (stage_in x.mark) s x.fixed.chroms h w g) where
+      ends_only : (f : End) (q : Heads) → Gives s lengths r b l (record { run = over_of r f; answer = answer.Ended f }) l → Steps s lengths h x b l (record { ring = x.ring; answer = answer.Ended f }) q l
+      ends_only f q y = record {
         found = λ m o j. let v : ◌≡◌ {A = ℕ} 0 1 = cc in absurd (omega arith);
         refused = λ u j. let v : ◌≡◌ {A = ℕ} 0 1 = cc in absurd (omega arith);
-        ended = λ u j. let v : f ≡ u = cc in subst (λ (i : End). Gives s lengths r b l (record { run = overOf r i; answer = answer.Ended i }) l) v y;
+        ended = λ u j. let v : f ≡ u = cc in subst (λ (i : End). Gives s lengths r b l (record { run = over_of r i; answer = answer.Ended i }) l) v y;
       }
 
       pub faults : (f : End) → w ≡ check.Wrong f → Steps s lengths h x b l (record { ring = x.ring; answer = answer.Ended f }) g l
-      faults f i = go (stageIn x.mark) refl
+      faults f i = go (stage_in x.mark) refl
         where
-          go : (t : Stage) → stageIn x.mark ≡ t → Steps s lengths h x b l (record { ring = x.ring; answer = answer.Ended f }) g l
-          go Fresh j = ends-only f g (first-wrong s lengths r b l k (gated k e) opened j z.shaped w g (opens.first j) f i)
+          go : (t : Stage) → stage_in x.mark ≡ t → Steps s lengths h x b l (record { ring = x.ring; answer = answer.Ended f }) g l
+          go Fresh j = ends_only f g (first_wrong s lengths r b l k (gated k e) opened j z.shaped w g (opens.first j) f i)
           go (After p) j = let v : check.Wrong f ≡ check.Fine = sym i ∙ (opens.later p j).check in let y : ◌≡◌ {A = ℕ} 0 1 = cc in absurd (omega arith)
           go (Over y) j = absurd (subst Going j z.going)
 
       module _ (fine : w ≡ check.Fine) where
-        pub may-settle : Settleable s g x.ring l
-        may-settle = go (stageIn x.mark) refl
+        pub may_settle : Settleable s g x.ring l
+        may_settle = go (stage_in x.mark) refl
           where
-            go : (t : Stage) → stageIn x.mark ≡ t → Settleable s g x.ring l
-            go Fresh j = settleable s (runIn g x.fixed.chroms x.ring x.mark) l (first-answerable s lengths r b l k (gated k e) opened j z.shaped w g (opens.first j) fine) (first-shaped s lengths r b l k (gated k e) opened j z.shaped w g (opens.first j) fine)
+            go : (t : Stage) → stage_in x.mark ≡ t → Settleable s g x.ring l
+            go Fresh j = settleable s (run_in g x.fixed.chroms x.ring x.mark) l (first_answerable s lengths r b l k (gated k e) opened j z.shaped w g (opens.first j) fine) (first_shaped s lengths r b l k (gated k e) opened j z.shaped w g (opens.first j) fine)
             go (After p) j = subst (λ (y : Heads). Settleable s y x.ring l) (sym (opens.later p j).heads) (settleable s r l (answerable s lengths r b l k (gated k e) opened r z.going (fits s lengths r b l k (gated k e) opened).placed refl) z.shaped)
             go (Over y) j = absurd (subst Going j z.going)
 
         module _ (a : Answered) (h' : Heads) (l' : Lent) (settles : SettlesAs s x.fixed.chroms g b x.ring l a h' l') where
           -- the first base
-          first : stageIn x.mark ≡ Fresh → Steps s lengths h x b l a h' l'
+          first : stage_in x.mark ≡ Fresh → Steps s lengths h x b l a h' l'
           first j =
-              let u : Run = runIn g x.fixed.chroms x.ring x.mark in
-              let able : Answerable s u l = first-answerable s lengths r b l k (gated k e) opened j z.shaped w g (opens.first j) fine in
+              let u : Run = run_in g x.fixed.chroms x.ring x.mark in
+              let able : Answerable s u l = first_answerable s lengths r b l k (gated k e) opened j z.shaped w g (opens.first j) fine in
               record {
-                found = λ m o i. first_so s lengths r b l k (gated k e) opened j z.shaped w g (opens.first j) fine (record { run = runIn h' x.fixed.chroms a.ring (markOf (After b)); answer = answer.Found m o }) l'
-                    (found_as s u b l able a h' l' settles m o i (runIn h' x.fixed.chroms a.ring (markOf (After b))) refl);
-                refused = λ y i. absurd (not-refused s u b l able a h' l' settles y i);
-                ended = λ f i. subst (λ (v : Run). Gives s lengths r b l (record { run = v; answer = answer.Ended f }) l') (over-same s lengths r b l k (gated k e) opened j z.shaped w g (opens.first j) fine f)
-                    (first_so s lengths r b l k (gated k e) opened j z.shaped w g (opens.first j) fine (record { run = overOf u f; answer = answer.Ended f }) l' (ends_as s u b l able a h' l' settles f i (record { run = overOf u f; answer = answer.Ended f }) refl));
+                found = λ m o i. first_so s lengths r b l k (gated k e) opened j z.shaped w g (opens.first j) fine (record { run = run_in h' x.fixed.chroms a.ring (mark_of (After b)); answer = answer.Found m o }) l'
+                    (found_as s u b l able a h' l' settles m o i (run_in h' x.fixed.chroms a.ring (mark_of (After b))) refl);
+                refused = λ y i. absurd (not_refused s u b l able a h' l' settles y i);
+                ended = λ f i. subst (λ (v : Run). Gives s lengths r b l (record { run = v; answer = answer.Ended f }) l') (over_same s lengths r b l k (gated k e) opened j z.shaped w g (opens.first j) fine f)
+                    (first_so s lengths r b l k (gated k e) opened j z.shaped w g (opens.first j) fine (record { run = over_of u f; answer = answer.Ended f }) l' (ends_as s u b l able a h' l' settles f i (record { run = over_of u f; answer = answer.Ended f }) refl));
               }
 
           -- a later one
-          later : (p : Base) → stageIn x.mark ≡ After p → Steps s lengths h x b l a h' l'
+          later : (p : Base) → stage_in x.mark ≡ After p → Steps s lengths h x b l a h' l'
           later p j =
               let able : Answerable s r l = answerable s lengths r b l k (gated k e) opened r z.going (fits s lengths r b l k (gated k e) opened).placed refl in
               let same : SettlesAs s x.fixed.chroms h b x.ring l a h' l' = subst (λ (y : Heads). SettlesAs s x.fixed.chroms y b x.ring l a h' l') (opens.later p j).heads settles in
               record {
-                found = λ m o i. further-so s lengths r b l k (gated k e) opened (record { last = p; is = j }) (record { run = runIn h' x.fixed.chroms a.ring (markOf (After b)); answer = answer.Found m o }) l'
-                    (found_as s r b l able a h' l' same m o i (runIn h' x.fixed.chroms a.ring (markOf (After b))) refl);
-                refused = λ y i. absurd (not-refused s r b l able a h' l' same y i);
-                ended = λ f i. further-so s lengths r b l k (gated k e) opened (record { last = p; is = j }) (record { run = overOf r f; answer = answer.Ended f }) l' (ends_as s r b l able a h' l' same f i (record { run = overOf r f; answer = answer.Ended f }) refl);
+                found = λ m o i. further_so s lengths r b l k (gated k e) opened (record { last = p; is = j }) (record { run = run_in h' x.fixed.chroms a.ring (mark_of (After b)); answer = answer.Found m o }) l'
+                    (found_as s r b l able a h' l' same m o i (run_in h' x.fixed.chroms a.ring (mark_of (After b))) refl);
+                refused = λ y i. absurd (not_refused s r b l able a h' l' same y i);
+                ended = λ f i. further_so s lengths r b l k (gated k e) opened (record { last = p; is = j }) (record { run = over_of r f; answer = answer.Ended f }) l' (ends_as s r b l able a h' l' same f i (record { run = over_of r f; answer = answer.Ended f }) refl);
               }
 
-          pub steps-so : Steps s lengths h x b l a h' l'
-          steps-so = go (stageIn x.mark) refl
+          pub steps_so : Steps s lengths h x b l a h' l'
+          steps_so = go (stage_in x.mark) refl
             where
-              go : (t : Stage) → stageIn x.mark ≡ t → Steps s lengths h x b l a h' l'
+              go : (t : Stage) → stage_in x.mark ≡ t → Steps s lengths h x b l a h' l'
               go Fresh j = first j
               go (After p) j = later p j
               go (Over y) j = absurd (subst Going j z.going)

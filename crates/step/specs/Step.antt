@@ -15,12 +15,12 @@ use Rattle.heads.specs.Move.{Placed, Shaped}
 use Rattle.heads.specs.Load.{LoadsAs}
 use Rattle.queue.specs.Ring.{Fair}
 use Rattle.pulls.specs.declared.Answered.{Answered}
-use Rattle.pulls.specs.Pulls.{drawnTo, Lent}
+use Rattle.pulls.specs.Pulls.{drawn_to, Lent}
 use Rattle.runs.specs.declared.Run.{Run}
 use Rattle.runs.specs.declared.Given.{Given}
-use Rattle.runs.specs.Marks.{stageIn, markOf}
-use Rattle.runs.specs.View.{headsOf, ringOf, stageOf, runIn, held_of, overOf}
-use Rattle.runs.specs.Comes.{rightOf}
+use Rattle.runs.specs.Marks.{stage_in, mark_of}
+use Rattle.runs.specs.View.{heads_of, ring_of, stage_of, run_in, held_of, over_of}
+use Rattle.runs.specs.Comes.{right_of}
 use Rattle.step.specs.declared.State.{State}
 use Rattle.step.specs.Settle.{Going, Settles}
 use Rattle.step.specs.Give.{Gives}
@@ -28,14 +28,14 @@ use Rattle.step.specs.Give.{Gives}
 -- ---- a run whose heads are loaded is given a base that is accepted
 
 pub record Answerable (s : Cols) (r : Run) (l : Lent) : Type 0 where
-  pub going : Going (stageOf r)
+  pub going : Going (stage_of r)
   pub placed : Placed s r.settings.streams r.next r.from r.to
-  pub fair : Fair (ringOf r) l.cells
+  pub fair : Fair (ring_of r) l.cells
   pub answers : r.settings.room ≤ length l.answers
 
 abbrev pub AnswersAs : Cols → Run → Base → Lent → Given → Lent → Type 0
 AnswersAs s r b l g l' =
-    Settles s b (drawnTo s r.settings.chroms b (headsOf r)) r (pulling r.settings.chroms r.settings.room (length l.answers) (held_of s l.cells r) b) l g l'
+    Settles s b (drawn_to s r.settings.chroms b (heads_of r)) r (pulling r.settings.chroms r.settings.room (length l.answers) (held_of s l.cells r) b) l g l'
 
 -- ---- the heads are loaded where that is due
 
@@ -53,16 +53,16 @@ pub record OpensAs (t : Stage) (s : Cols) (n : ℕ) (h : Heads) (w : Check) (h' 
 
 -- the run whose heads lie in arrays and that stands so
 abbrev pub run_at : Heads → State → Run
-run_at h x = runIn h x.fixed.chroms x.ring x.mark
+run_at h x = run_in h x.fixed.chroms x.ring x.mark
 
 -- what a base asks: the run goes on, and 1 is not due
 pub record Ready (s : Cols) (lengths : List ℕ) (h : Heads) (x : State) (l : Lent) : Type 0 where
-  pub right : rightOf s lengths (run_at h x) l ≡ true
+  pub right : right_of s lengths (run_at h x) l ≡ true
   pub shaped : Shaped h
-  pub going : Going (stageIn x.mark)
+  pub going : Going (stage_in x.mark)
 
 -- it is as given to the call for one base: what the run is then, by the answer
 pub record Steps (s : Cols) (lengths : List ℕ) (h : Heads) (x : State) (b : Base) (l : Lent) (a : Answered) (h' : Heads) (l' : Lent) : Type 0 where
-  pub found : (m : ℕ) (o : Offer) → a.answer ≡ answer.Found m o → Gives s lengths (run_at h x) b l (record { run = runIn h' x.fixed.chroms a.ring (markOf (After b)); answer = answer.Found m o }) l'
+  pub found : (m : ℕ) (o : Offer) → a.answer ≡ answer.Found m o → Gives s lengths (run_at h x) b l (record { run = run_in h' x.fixed.chroms a.ring (mark_of (After b)); answer = answer.Found m o }) l'
   pub refused : (y : Refusal) → a.answer ≡ answer.Refused y → Gives s lengths (run_at h x) b l (record { run = run_at h' x; answer = answer.Refused y }) l'
-  pub ended : (e : End) → a.answer ≡ answer.Ended e → Gives s lengths (run_at h x) b l (record { run = overOf (run_at h x) e; answer = answer.Ended e }) l'
+  pub ended : (e : End) → a.answer ≡ answer.Ended e → Gives s lengths (run_at h x) b l (record { run = over_of (run_at h x) e; answer = answer.Ended e }) l'

@@ -1,6 +1,6 @@
 // One base of a run at which 1 is not due: 4, 6, 3, 5; at the first that is accepted the heads are loaded; then it is answered. The heads go on in place.
 ghost use Rattle.std.specs.Prelude.{◌≡◌};
-ghost use Rattle.heads.specs.View.{cols, headsBy};
+ghost use Rattle.heads.specs.View.{cols, heads_by};
 ghost use Rattle.heads.specs.Load.{Loadable};
 ghost use Rattle.pulls.specs.Pulls.{lent};
 ghost use Rattle.step.specs.Step.{OpensAs, Ready, Steps};
@@ -33,10 +33,10 @@ fn opened<'a>(
     start: &[u64],
     stop: &[u64],
 ) -> Check
-    requires { Loadable (cols chrom.now start.now stop.now) (headsBy fours.old ended.old next.old from.now to.now fixed.streams) }
+    requires { Loadable (cols chrom.now start.now stop.now) (heads_by fours.old ended.old next.old from.now to.now fixed.streams) }
     ensures { OpensAs stage (cols chrom.now start.now stop.now) fixed.chroms
-        (headsBy fours.old ended.old next.old from.now to.now fixed.streams) result
-        (headsBy fours.new ended.new next.new from.now to.now fixed.streams) }
+        (heads_by fours.old ended.old next.old from.now to.now fixed.streams) result
+        (heads_by fours.new ended.new next.new from.now to.now fixed.streams) }
 {
     match stage {
         Stage::Fresh => {
@@ -76,12 +76,12 @@ pub fn step<'a>(
     queue: &mut [[u64; 4]],
     answers: &mut [[u64; 2]],
 ) -> Answered
-    requires { Ready (cols chrom.now start.now stop.now) lengths.now (headsBy fours.old ended.old next.old from.now to.now at.fixed.streams) at
+    requires { Ready (cols chrom.now start.now stop.now) lengths.now (heads_by fours.old ended.old next.old from.now to.now at.fixed.streams) at
         (lent queue.old answers.old) }
     ensures { Steps (cols chrom.now start.now stop.now) lengths.now
-        (headsBy fours.old ended.old next.old from.now to.now at.fixed.streams) at b
+        (heads_by fours.old ended.old next.old from.now to.now at.fixed.streams) at b
         (lent queue.old answers.old) result
-        (headsBy fours.new ended.new next.new from.now to.now at.fixed.streams)
+        (heads_by fours.new ended.new next.new from.now to.now at.fixed.streams)
         (lent queue.new answers.new) }
 {
     let ring = at.ring;

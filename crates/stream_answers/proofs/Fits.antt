@@ -9,22 +9,22 @@ use lib.Dec.{eqb, leb, ltb}
 use lib.ListN.{length}
 use borrow.Author.Tests.{le-leb, eqb-true}
 use Rattle.basics.specs.Lists.{keep, filter, All, nil, cons, Sorted}
-use Rattle.basics.proofs.BoolLaws.{and_left, and-also}
+use Rattle.basics.proofs.BoolLaws.{and_left, and_also}
 use Rattle.basics.proofs.ListLaws.{all_map, all_both, all_filter, filter_passes}
 use Rattle.rules.specs.declared.Base.{Base}
 use Rattle.rules.specs.Rows.{Record, good}
 use Rattle.rules.specs.Overlap.{meets, overlaps}
-use Rattle.rules.specs.Job.{Job, mergedOf}
+use Rattle.rules.specs.Job.{Job, merged_of}
 use Rattle.theory.proofs.Modes.{Le}
-use Rattle.theory.proofs.StreamLaws.{merged-sorted, merged-good}
+use Rattle.theory.proofs.StreamLaws.{merged_sorted, merged_good}
 use Rattle.spans.specs.declared.Span.{Span}
 use Rattle.fragment_rules.specs.declared.Rule.{Rule}
 use Rattle.layouts.specs.declared.Answer.{Answer}
 use Rattle.layouts.specs.declared.Answer.TheVariants as answer
 use Rattle.layouts.specs.declared.Refusal.TheVariants as refusal
 use Rattle.layouts.specs.Layout.{layout}
-use Rattle.layouts.specs.Judged.{allFitting, unless, judged}
-use Rattle.stream_answers.specs.Answer.{baseSpan, recordSpan, streamAnswer}
+use Rattle.layouts.specs.Judged.{all_fitting, unless, judged}
+use Rattle.stream_answers.specs.Answer.{base_span, record_span, stream_answer}
 
 -- what passes a test stands in the order that it stood in
 sorted_filter : {A : Type 0} {le : A → A → Type 0} (p : A → Bool) {l : List A} → Sorted le l → Sorted le (filter p l)
@@ -40,32 +40,32 @@ module _ (n : ℕ) (b : Base) where
   abbrev Fit : Record → Type 0
   Fit r = (good n r.it ≡ true) × (overlaps b r ≡ true)
 
-  start-on : (x y : Record) → Fit x → Fit y → Le x y → x.it.start ≤ y.it.start
-  start-on x y f g h = h.tie (eqb-true x.it.chrom.0 b.chrom.0 (and_left (eqb x.it.chrom.0 b.chrom.0) (meets b.start b.stop x.it.start x.it.stop) f.1)
+  start_on : (x y : Record) → Fit x → Fit y → Le x y → x.it.start ≤ y.it.start
+  start_on x y f g h = h.tie (eqb-true x.it.chrom.0 b.chrom.0 (and_left (eqb x.it.chrom.0 b.chrom.0) (meets b.start b.stop x.it.start x.it.stop) f.1)
       ∙ sym (eqb-true y.it.chrom.0 b.chrom.0 (and_left (eqb y.it.chrom.0 b.chrom.0) (meets b.start b.stop y.it.start y.it.stop) g.1)))
 
-  fits : (ahead : ℕ) {l : List Record} → Sorted Le l → All Fit l → All (λ r. ahead ≤ r.it.start) l → allFitting (baseSpan b) ahead (map recordSpan l) ≡ true
-  unfolding allFitting
+  fits : (ahead : ℕ) {l : List Record} → Sorted Le l → All Fit l → All (λ r. ahead ≤ r.it.start) l → all_fitting (base_span b) ahead (map record_span l) ≡ true
+  unfolding all_fitting
   fits ahead Sorted.none k m = refl
   fits ahead (Sorted.next {x} {l} a s) (cons f k) (cons h m) =
-      let up : leb x.it.start x.it.stop ≡ true = and-also (ltb x.it.chrom.0 n) (leb x.it.start x.it.stop) f.0 in
-      let on : meets b.start b.stop x.it.start x.it.stop ≡ true = and-also (eqb x.it.chrom.0 b.chrom.0) (meets b.start b.stop x.it.start x.it.stop) f.1 in
-      rw (up, on, le-leb ahead x.it.start h) (fits x.it.start s k (all_map (λ y e. start-on x y f e.0 e.1) (all_both k a)))
+      let up : leb x.it.start x.it.stop ≡ true = and_also (ltb x.it.chrom.0 n) (leb x.it.start x.it.stop) f.0 in
+      let on : meets b.start b.stop x.it.start x.it.stop ≡ true = and_also (eqb x.it.chrom.0 b.chrom.0) (meets b.start b.stop x.it.start x.it.stop) f.1 in
+      rw (up, on, le-leb ahead x.it.start h) (fits x.it.start s k (all_map (λ y e. start_on x y f e.0 e.1) (all_both k a)))
 
 -- "a record given to the parts has start > stop, doesn't overlap the base, or starts before the one ahead": none of these
-pub answer-fits : (j : Job) (b : Base) (i : ℕ) → allFitting (baseSpan b) 0 (streamAnswer j b i) ≡ true
-answer-fits j b i =
+pub answer_fits : (j : Job) (b : Base) (i : ℕ) → all_fitting (base_span b) 0 (stream_answer j b i) ≡ true
+answer_fits j b i =
     let n : ℕ = length j.lengths in
-    let own = filter (overlaps b) (mergedOf j) in
+    let own = filter (overlaps b) (merged_of j) in
     let mine : Record → Bool = λ r. eqb r.stream.0 i in
-    fits n b 0 (sorted_filter mine (sorted_filter (overlaps b) (merged-sorted n j.streams)))
-    (all_filter mine (all_both (all_filter (overlaps b) (merged-good n j.streams)) (filter_passes (overlaps b) (mergedOf j))))
-    (all_map (λ r e. omega arith) (all_filter mine (all_both (all_filter (overlaps b) (merged-good n j.streams)) (filter_passes (overlaps b) (mergedOf j)))))
+    fits n b 0 (sorted_filter mine (sorted_filter (overlaps b) (merged_sorted n j.streams)))
+    (all_filter mine (all_both (all_filter (overlaps b) (merged_good n j.streams)) (filter_passes (overlaps b) (merged_of j))))
+    (all_map (λ r e. omega arith) (all_filter mine (all_both (all_filter (overlaps b) (merged_good n j.streams)) (filter_passes (overlaps b) (merged_of j)))))
 
 -- so the parts are never refused by 13
-pub never-13 : (j : Job) (b : Base) (i : ℕ) (rule : Rule) (slots room : ℕ) → judged rule (baseSpan b) (streamAnswer j b i) slots room ≡ answer.Refused refusal.Records → ⊥
-never-13 j b i rule slots room e =
-    go (leb b.start b.stop) (leb (length (layout rule (baseSpan b) (streamAnswer j b i)).bases) slots && leb (length (layout rule (baseSpan b) (streamAnswer j b i)).pieces) room) _ _ (rw (answer-fits j b i) at e)
+pub never_13 : (j : Job) (b : Base) (i : ℕ) (rule : Rule) (slots room : ℕ) → judged rule (base_span b) (stream_answer j b i) slots room ≡ answer.Refused refusal.Records → ⊥
+never_13 j b i rule slots room e =
+    go (leb b.start b.stop) (leb (length (layout rule (base_span b) (stream_answer j b i)).bases) slots && leb (length (layout rule (base_span b) (stream_answer j b i)).pieces) room) _ _ (rw (answer_fits j b i) at e)
   where
     go : (c d : Bool) (m k : ℕ) → unless c refusal.Backwards (unless d refusal.Room (answer.Written m k)) ≡ answer.Refused refusal.Records → ⊥
     go true true m k z = let y : ◌≡◌ {A = ℕ} 0 1 = cc in absurd (omega arith)

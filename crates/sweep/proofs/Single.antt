@@ -29,9 +29,9 @@ module _ {s : Cols} {lengths : List ℕ} {t : Cols} {r : Run} {l : Lent} {ns : L
   passes_none (one i o r₂ l₂ q g z) e = absurd (omega (arith, e))
 
   -- of one base answered: it was given as it began
-  passes-one : {k u : ℕ} {p : Offer} {v : Run} {m : Lent} {ms : List ℕ} → Passes s lengths t r l ns k u p v m ms → k ≡ 1 → Gives s lengths r (base_at t 0) l (record { run = v; answer = answer.Found u p }) m
-  passes-one none e = absurd (omega (arith, e))
-  passes-one (one {k = k} {u = u} {r₁ = r₁} {l₁ = l₁} i o r₂ l₂ q g z) e =
+  passes_one : {k u : ℕ} {p : Offer} {v : Run} {m : Lent} {ms : List ℕ} → Passes s lengths t r l ns k u p v m ms → k ≡ 1 → Gives s lengths r (base_at t 0) l (record { run = v; answer = answer.Found u p }) m
+  passes_one none e = absurd (omega (arith, e))
+  passes_one (one {k = k} {u = u} {r₁ = r₁} {l₁ = l₁} i o r₂ l₂ q g z) e =
       let j : k ≡ 0 = omega arith in
       let w = passes_none q j in
       let n : u + i ≡ i = omega (arith, w.free) in
@@ -51,10 +51,10 @@ record One (v : Run) (m : Lent) (a : Answer) (w : Run) (l' : Lent) : Type 0 wher
   lent : l' ≡ m
   last : a ≡ answer.Found 0 Nothing
 
-ends-one : {s : Cols} {lengths : List ℕ} {t : Cols} {k u : ℕ} {v : Run} {m : Lent} {a : Answer} {w : Run} {l' : Lent} → Ends s lengths t k u v m a w l' → length t.chrom ≡ 1 → k ≡ 1 → One v m a w l'
-ends-one (all e) n i = record { run = refl; lent = refl; last = refl }
-ends-one (short b z f) n i = record { run = refl; lent = refl; last = refl }
-ends-one (other a w l' b z x g y) n i = absurd (omega (arith, b, n, i))
+ends_one : {s : Cols} {lengths : List ℕ} {t : Cols} {k u : ℕ} {v : Run} {m : Lent} {a : Answer} {w : Run} {l' : Lent} → Ends s lengths t k u v m a w l' → length t.chrom ≡ 1 → k ≡ 1 → One v m a w l'
+ends_one (all e) n i = record { run = refl; lent = refl; last = refl }
+ends_one (short b z f) n i = record { run = refl; lent = refl; last = refl }
+ends_one (other a w l' b z x g y) n i = absurd (omega (arith, b, n, i))
 
 -- it was not
 record Other (s : Cols) (lengths : List ℕ) (t : Cols) (r : Run) (l : Lent) (k : ℕ) (a : Answer) (w : Run) (l' : Lent) : Type 0 where
@@ -62,11 +62,11 @@ record Other (s : Cols) (lengths : List ℕ) (t : Cols) (r : Run) (l : Lent) (k 
   unfound : Unfound a
   gives : Gives s lengths r (base_at t 0) l (record { run = w; answer = a }) l'
 
-ends-none : {s : Cols} {lengths : List ℕ} {t : Cols} {r : Run} {l : Lent} {ns : List ℕ} {k u : ℕ} {p : Offer} {v : Run} {m : Lent} {ms : List ℕ} {a : Answer} {w : Run} {l' : Lent} → Passes s lengths t r l ns k u p v m ms → Ends s lengths t k u v m a w l'
+ends_none : {s : Cols} {lengths : List ℕ} {t : Cols} {r : Run} {l : Lent} {ns : List ℕ} {k u : ℕ} {p : Offer} {v : Run} {m : Lent} {ms : List ℕ} {a : Answer} {w : Run} {l' : Lent} → Passes s lengths t r l ns k u p v m ms → Ends s lengths t k u v m a w l'
     → length t.chrom ≡ 1 → (k ≡ 1 → ⊥) → Other s lengths t r l k a w l'
-ends-none q (all e) n i = absurd (i (e ∙ n))
-ends-none q (short b z f) n i = absurd (omega (arith, b, z, n))
-ends-none {s} {lengths} {t} {r} {l} {k = k} {u = u} {v = v} {m = m} q (other a w l' b z x g y) n i =
+ends_none q (all e) n i = absurd (i (e ∙ n))
+ends_none q (short b z f) n i = absurd (omega (arith, b, z, n))
+ends_none {s} {lengths} {t} {r} {l} {k = k} {u = u} {v = v} {m = m} q (other a w l' b z x g y) n i =
     let j : k ≡ 0 = omega (arith, b, n) in
     let f = passes_none q j in
     record { none = j; unfound = x; gives = go k j u f.free v f.run m f.lent g }
@@ -84,22 +84,22 @@ module _ {s : Cols} {lengths : List ℕ} {t : Cols} {r : Run} {l : Lent} {p : Pa
   answers : Answers s lengths t r l ns p l' ns'
   answers = x.even even
 
-  pub single-found : p.bases ≡ 1 → Gives s lengths r (base_at t 0) l (record { run = p.run; answer = answer.Found p.records p.offer }) l'
-  single-found i =
-      let e = ends-one answers.ends n i in
+  pub single_found : p.bases ≡ 1 → Gives s lengths r (base_at t 0) l (record { run = p.run; answer = answer.Found p.records p.offer }) l'
+  single_found i =
+      let e = ends_one answers.ends n i in
       subst (λ (w : Run). Gives s lengths r (base_at t 0) l (record { run = w; answer = answer.Found p.records p.offer }) l') (sym e.run)
-      (subst (λ (m : Lent). Gives s lengths r (base_at t 0) l (record { run = answers.run; answer = answer.Found p.records p.offer }) m) (sym e.lent) (passes-one answers.passes i))
+      (subst (λ (m : Lent). Gives s lengths r (base_at t 0) l (record { run = answers.run; answer = answer.Found p.records p.offer }) m) (sym e.lent) (passes_one answers.passes i))
 
   -- and nothing stopped it
-  pub single-last : p.bases ≡ 1 → p.last ≡ answer.Found 0 Nothing
-  single-last i = (ends-one answers.ends n i).last
+  pub single_last : p.bases ≡ 1 → p.last ≡ answer.Found 0 Nothing
+  single_last i = (ends_one answers.ends n i).last
 
-  pub single-other : (p.bases ≡ 1 → ⊥) → Gives s lengths r (base_at t 0) l (record { run = p.run; answer = p.last }) l'
-  single-other i = (ends-none answers.passes answers.ends n i).gives
+  pub single_other : (p.bases ≡ 1 → ⊥) → Gives s lengths r (base_at t 0) l (record { run = p.run; answer = p.last }) l'
+  single_other i = (ends_none answers.passes answers.ends n i).gives
 
   -- and no base was answered, so there are no records and nothing was offered
-  pub single-none : (p.bases ≡ 1 → ⊥) → (p.bases ≡ 0) × ((p.records ≡ 0) × ((p.offer ≡ Nothing) × Unfound p.last))
-  single-none i =
-      let e = ends-none answers.passes answers.ends n i in
+  pub single_none : (p.bases ≡ 1 → ⊥) → (p.bases ≡ 0) × ((p.records ≡ 0) × ((p.offer ≡ Nothing) × Unfound p.last))
+  single_none i =
+      let e = ends_none answers.passes answers.ends n i in
       let b = passes_none answers.passes e.none in
       (e.none, (b.free, (b.offer, e.unfound)))

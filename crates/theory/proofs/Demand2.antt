@@ -8,7 +8,7 @@ use Prim.Native.Nat.{ℕ, ◌≤◌}
 use lib.Dec.{ltb}
 use lib.ListN.{length, get_or}
 use borrow.Author.Tests.{le-ltb}
-use Rattle.basics.specs.Lists.{some?, filter, head?}
+use Rattle.basics.specs.Lists.{is_some, filter, first_one}
 use Rattle.rules.specs.declared.Base.{Base}
 use Rattle.rules.specs.declared.Refusal.{Refusal}
 use Rattle.rules.specs.declared.Refusal.TheVariants.{Sizes}
@@ -19,51 +19,51 @@ use Rattle.rules.specs.Overlap.{overlaps}
 use Rattle.rules.specs.Bases.{judge}
 use Rattle.rules.specs.Offer.{offer}
 use Rattle.rules.specs.Call.{Reply, found, refused, answer_of, rows_of}
-use Rattle.rules.specs.Job.{Job, answers, mergedOf}
-use Rattle.rules.specs.Promise.{crowd, unlessRefused, unlessEnded, ending, said}
-use Rattle.rules.specs.Demands.{ValidStreams, accepted, Spot, Accepted, replyAt, RoomEnough, Demand2}
-use Rattle.theory.proofs.ValidLaws.{valid-ending, valid-row}
-use Rattle.theory.proofs.StreamLaws.{merged-own}
-use Rattle.theory.proofs.Answers.{answers-promised}
+use Rattle.rules.specs.Job.{Job, answers, merged_of}
+use Rattle.rules.specs.Promise.{crowd, unless_refused, unless_ended, ending, said}
+use Rattle.rules.specs.Demands.{ValidStreams, accepted, Spot, Accepted, reply_at, RoomEnough, Demand2}
+use Rattle.theory.proofs.ValidLaws.{valid_ending, valid_row}
+use Rattle.theory.proofs.StreamLaws.{merged_own}
+use Rattle.theory.proofs.Answers.{answers_promised}
 
 module _ (j : Job) (ok : ValidStreams j) where
   abbrev M : List Record
-  M = mergedOf j
+  M = merged_of j
 
   -- each accepted base of `bs`, behind the accepted ones `hs`, has room
   abbrev Roomy : List Base → List Base → Type 0
-  Roomy hs bs = (pre : List Base) (b : Base) (post : List Base) → bs ≡ pre ++ b ∷ post → judge j.lengths (head? (accepted j.lengths hs pre)) b ≡ none
+  Roomy hs bs = (pre : List Base) (b : Base) (post : List Base) → bs ≡ pre ++ b ∷ post → judge j.lengths (first_one (accepted j.lengths hs pre)) b ≡ none
       → length (crowd M (accepted j.lengths hs pre) b) ≤ j.room
 
-  room-goes : (hs : List Base) (b : Base) → length (crowd M hs b) ≤ j.room → ending (length j.lengths) j.room (numbered 0 j.streams) hs b ≡ none
-  room-goes hs b h = valid-ending j ok hs b ∙ rw (le-ltb j.room (length (crowd M hs b)) h)
+  room_goes : (hs : List Base) (b : Base) → length (crowd M hs b) ≤ j.room → ending (length j.lengths) j.room (numbered 0 j.streams) hs b ≡ none
+  room_goes hs b h = valid_ending j ok hs b ∙ rw (le-ltb j.room (length (crowd M hs b)) h)
 
   abbrev due : Base → Reply
   due b = found (filter (overlaps b) M) (offer M b)
 
   -- the accepted bases of k, where `o` is what a is refused for
   abbrev on : List Base → Base → Option Refusal → List Base → List Base
-  on hs a o k = cond (some? o) (accepted j.lengths hs k) (accepted j.lengths (a ∷ hs) k)
+  on hs a o k = cond (is_some o) (accepted j.lengths hs k) (accepted j.lengths (a ∷ hs) k)
 
-  said_at : (hs pre : List Base) (b : Base) (post : List Base) → Roomy hs (pre ++ b ∷ post) → judge j.lengths (head? (accepted j.lengths hs pre)) b ≡ none
+  said_at : (hs pre : List Base) (b : Base) (post : List Base) → Roomy hs (pre ++ b ∷ post) → judge j.lengths (first_one (accepted j.lengths hs pre)) b ≡ none
       → get_or (said j hs (pre ++ b ∷ post)) (length pre) (refused Sizes) ≡ due b
   unfolding said
-  said_at hs [] b post r e = rw (e, room-goes hs b (r [] b post refl e))
+  said_at hs [] b post r e = rw (e, room_goes hs b (r [] b post refl e))
   said_at hs (a ∷ pre) b post r e =
-      go (judge j.lengths (head? hs) a) refl e (λ k d f q z. r (a ∷ k) d f (rw q) z) (said_at hs pre b post) (said_at (a ∷ hs) pre b post)
+      go (judge j.lengths (first_one hs) a) refl e (λ k d f q z. r (a ∷ k) d f (rw q) z) (said_at hs pre b post) (said_at (a ∷ hs) pre b post)
     where
-      go : (o : Option Refusal) → judge j.lengths (head? hs) a ≡ o → judge j.lengths (head? (on hs a o pre)) b ≡ none
-          → ((k : List Base) (d : Base) (f : List Base) → pre ++ b ∷ post ≡ k ++ d ∷ f → judge j.lengths (head? (on hs a (judge j.lengths (head? hs) a) k)) d ≡ none → length (crowd M (on hs a (judge j.lengths (head? hs) a) k) d) ≤ j.room)
-          → (Roomy hs (pre ++ b ∷ post) → judge j.lengths (head? (accepted j.lengths hs pre)) b ≡ none → get_or (said j hs (pre ++ b ∷ post)) (length pre) (refused Sizes) ≡ due b)
-          → (Roomy (a ∷ hs) (pre ++ b ∷ post) → judge j.lengths (head? (accepted j.lengths (a ∷ hs) pre)) b ≡ none → get_or (said j (a ∷ hs) (pre ++ b ∷ post)) (length pre) (refused Sizes) ≡ due b)
-          → get_or (unlessRefused o (said j hs (pre ++ b ∷ post)) (unlessEnded (ending (length j.lengths) j.room (numbered 0 j.streams) hs a) (a ∷ pre ++ b ∷ post) (due a ∷ said j (a ∷ hs) (pre ++ b ∷ post)))) (length (a ∷ pre)) (refused Sizes)
+      go : (o : Option Refusal) → judge j.lengths (first_one hs) a ≡ o → judge j.lengths (first_one (on hs a o pre)) b ≡ none
+          → ((k : List Base) (d : Base) (f : List Base) → pre ++ b ∷ post ≡ k ++ d ∷ f → judge j.lengths (first_one (on hs a (judge j.lengths (first_one hs) a) k)) d ≡ none → length (crowd M (on hs a (judge j.lengths (first_one hs) a) k) d) ≤ j.room)
+          → (Roomy hs (pre ++ b ∷ post) → judge j.lengths (first_one (accepted j.lengths hs pre)) b ≡ none → get_or (said j hs (pre ++ b ∷ post)) (length pre) (refused Sizes) ≡ due b)
+          → (Roomy (a ∷ hs) (pre ++ b ∷ post) → judge j.lengths (first_one (accepted j.lengths (a ∷ hs) pre)) b ≡ none → get_or (said j (a ∷ hs) (pre ++ b ∷ post)) (length pre) (refused Sizes) ≡ due b)
+          → get_or (unless_refused o (said j hs (pre ++ b ∷ post)) (unless_ended (ending (length j.lengths) j.room (numbered 0 j.streams) hs a) (a ∷ pre ++ b ∷ post) (due a ∷ said j (a ∷ hs) (pre ++ b ∷ post)))) (length (a ∷ pre)) (refused Sizes)
           ≡ due b
       go (some x) q z s same more = same (rw q at s) z
-      go none q z s same more = rw (room-goes hs a (r [] a (pre ++ b ∷ post) refl q)) (more (rw q at s) z)
+      go none q z s same more = rw (room_goes hs a (r [] a (pre ++ b ∷ post) refl q)) (more (rw q at s) z)
 
   -- an accepted base gets its records and its offer
-  pub answer_at : (bs : List Base) → RoomEnough j bs → (at : Spot bs) → Accepted j at → replyAt at (answers j bs) ≡ due at.base
-  answer_at bs room at e = rw (answers-promised j bs, at.whole) (said_at [] at.ahead at.base at.later (rw at.whole at roomy) e)
+  pub answer_at : (bs : List Base) → RoomEnough j bs → (at : Spot bs) → Accepted j at → reply_at at (answers j bs) ≡ due at.base
+  answer_at bs room at e = rw (answers_promised j bs, at.whole) (said_at [] at.ahead at.base at.later (rw at.whole at roomy) e)
     where
       roomy : Roomy [] bs
       roomy pre b post q z = room (record { ahead = pre; base = b; later = post; whole = q }) z
@@ -73,5 +73,5 @@ pub demand2 : Demand2 answers
 demand2 = record {
   exact = λ j bs ok room at e. ap rows_of (answer_at j ok bs room at e);
   answered = λ j bs ok room at e. ap (λ (r : Reply). number_of (answer_of r)) (answer_at j ok bs room at e);
-  once = λ j ok i. merged-own (length j.lengths) j.streams i ∙ valid-row j ok i;
+  once = λ j ok i. merged_own (length j.lengths) j.streams i ∙ valid_row j ok i;
 }

@@ -6,34 +6,34 @@ use mathlib.Core.Bool.{Bool}
 use mathlib.Core.List.{List, [], ◌∷◌, ◌++◌}
 use Prim.Native.Nat.{ℕ, ◌≤◌}
 use Rattle.basics.specs.Lists.{Pairs, All, nil}
-use Rattle.basics.proofs.ListLaws.{pairs-at}
+use Rattle.basics.proofs.ListLaws.{pairs_at}
 use Rattle.rules.specs.declared.Base.{Base}
 use Rattle.rules.specs.declared.Refusal.TheVariants.{Sizes}
 use Rattle.rules.specs.Numbers.{number_of}
 use Rattle.rules.specs.Offer.{offer}
 use Rattle.rules.specs.Call.{Reply, refused, answer_of, offered}
-use Rattle.rules.specs.Job.{Job, answers, mergedOf}
+use Rattle.rules.specs.Job.{Job, answers, merged_of}
 use Rattle.rules.specs.Promise.{said}
-use Rattle.rules.specs.Demands.{ValidStreams, Spot, replyAt, overfull, isNoRoom, withRoom, Demand3}
-use Rattle.theory.proofs.Answers.{answers-promised}
-use Rattle.theory.proofs.Room.{Agree, room-exact, larger}
-use Rattle.theory.proofs.When.{full-when}
-use Rattle.theory.proofs.LeftOut.{Exact, said-exact, given-same, missed-none}
+use Rattle.rules.specs.Demands.{ValidStreams, Spot, reply_at, overfull, is_no_room, with_room, Demand3}
+use Rattle.theory.proofs.Answers.{answers_promised}
+use Rattle.theory.proofs.Room.{Agree, room_exact, larger}
+use Rattle.theory.proofs.When.{full_when}
+use Rattle.theory.proofs.LeftOut.{Exact, said_exact, given_same, missed_none}
 
-offers : (j : Job) (bs : List Base) (at : Spot bs) → Exact (mergedOf j) at.base (replyAt at (answers j bs))
-offers j bs at = rw (answers-promised j bs, at.whole) (pairs-at (refused Sizes) at.ahead at.base at.later (said-exact j [] (at.ahead ++ at.base ∷ at.later)))
+offers : (j : Job) (bs : List Base) (at : Spot bs) → Exact (merged_of j) at.base (reply_at at (answers j bs))
+offers j bs at = rw (answers_promised j bs, at.whole) (pairs_at (refused Sizes) at.ahead at.base at.later (said_exact j [] (at.ahead ++ at.base ∷ at.later)))
 
-room : (j : Job) (bs : List Base) → ValidStreams j → (at : Spot bs) → isNoRoom (replyAt at (answers j bs)) ≡ overfull j [] (at.ahead ++ at.base ∷ [])
-room j bs ok at = rw (answers-promised j bs, at.whole) (room-exact j ok at.base at.later [] at.ahead)
+room : (j : Job) (bs : List Base) → ValidStreams j → (at : Spot bs) → is_no_room (reply_at at (answers j bs)) ≡ overfull j [] (at.ahead ++ at.base ∷ [])
+room j bs ok at = rw (answers_promised j bs, at.whole) (room_exact j ok at.base at.later [] at.ahead)
 
-wider : (j : Job) (Q : ℕ) (bs : List Base) → j.room ≤ Q → Pairs Agree (answers j bs) (answers (withRoom j Q) bs)
-wider j Q bs h = rw (answers-promised j bs, answers-promised (withRoom j Q) bs) (larger j Q h [] bs)
+wider : (j : Job) (Q : ℕ) (bs : List Base) → j.room ≤ Q → Pairs Agree (answers j bs) (answers (with_room j Q) bs)
+wider j Q bs h = rw (answers_promised j bs, answers_promised (with_room j Q) bs) (larger j Q h [] bs)
 
 pub demand3 : Demand3 answers
 demand3 = record {
   offers = λ j bs ok at e. offers j bs at e;
   room = room;
-  when = λ j bs ok at. room j bs ok at ∙ full-when j [] (at.ahead ++ at.base ∷ []) (λ b e. nil) nil;
+  when = λ j bs ok at. room j bs ok at ∙ full_when j [] (at.ahead ++ at.base ∷ []) (λ b e. nil) nil;
   larger = wider;
-  skips = λ j ok l fit legal. (given-same j ok l fit legal, missed-none j ok l fit legal);
+  skips = λ j ok l fit legal. (given_same j ok l fit legal, missed_none j ok l fit legal);
 }

@@ -9,23 +9,23 @@ use lib.Dec.{leb}
 use lib.ListN.{length}
 use borrow.Author.Tests.{leb-true, leb-false}
 use Rattle.basics.specs.Lists.{filter, front, back, All, nil, cons, Sorted}
-use Rattle.basics.proofs.BoolLaws.{and_right, and-own, or-true, or_cases, iff}
-use Rattle.basics.proofs.ListLaws.{filter-append, filter-cong, filter-filter, filter-ahead, filter-parted, filter_passes, length-filter, all_of, all_map, all_both, all_append, all_right, sorted-right, front-back, front-all, back_none}
+use Rattle.basics.proofs.BoolLaws.{and_right, and_own, or_true, or_cases, iff}
+use Rattle.basics.proofs.ListLaws.{filter_append, filter_cong, filter_filter, filter_ahead, filter_parted, filter_passes, length_filter, all_of, all_map, all_both, all_append, all_right, sorted_right, front_back, front_all, back_none}
 use Rattle.theory.proofs.Mode.{Mode, State, Laws, Since, step, own, took, due, held, Swept, Good, Tells}
-use Rattle.theory.proofs.Walk.{load, walk-load}
+use Rattle.theory.proofs.Walk.{load, walk_load}
 
 module _ {R B : Type 0} (m : Mode R B) (laws : Laws m) where
   open m use {le, before, take, live, wait}
 
   -- a record that was drawn waits exactly if it is live
-  pub took-wait : {bs : List B} {b : B} (r : R) → Since m bs b → took m bs r ≡ true → wait b r ≡ live b r
-  took-wait r nil t = cc
-  took-wait {b} r (cons {x = p} {l = bs} o os) t =
-      or_cases (take p r) (took m bs r) t (λ e. iff (laws.drawn p b r o e) (laws.waits b b r (laws.same b))) (λ e. took-wait r os e)
+  pub took_wait : {bs : List B} {b : B} (r : R) → Since m bs b → took m bs r ≡ true → wait b r ≡ live b r
+  took_wait r nil t = cc
+  took_wait {b} r (cons {x = p} {l = bs} o os) t =
+      or_cases (take p r) (took m bs r) t (λ e. iff (laws.drawn p b r o e) (laws.waits b b r (laws.same b))) (λ e. took_wait r os e)
 
   -- a record that was drawn, and is live for a later base, was live for the base between
-  pub took-live : {bs : List B} {b c : B} (r : R) → Since m bs b → before b c → took m bs r ≡ true → live c r ≡ true → live b r ≡ true
-  took-live {b} {c} r o h t v = sym (took-wait r o t) ∙ laws.waits b c r h v
+  pub took_live : {bs : List B} {b c : B} (r : R) → Since m bs b → before b c → took m bs r ≡ true → live c r ≡ true → live b r ≡ true
+  took_live {b} {c} r o h t v = sym (took_wait r o t) ∙ laws.waits b c r h v
 
   module _ (M : List R) (Q : ℕ) (bs : List B) (s : State R) (w : Swept m M Q bs s) (b : B) (order : Since m bs b) where
     abbrev new : List R
@@ -41,41 +41,41 @@ module _ {R B : Type 0} (m : Mode R B) (laws : Laws m) where
     queue = filter (live b) s.queue ++ filter (live b) new
 
     split : M ≡ done ++ rest
-    split = w.split ∙ rw (append_assoc, front-back)
+    split = w.split ∙ rw (append_assoc, front_back)
 
     drawn : All (λ r. took m (b ∷ bs) r ≡ true) done
-    drawn = all_append (all_map (λ r e. or-true (take b r) (took m bs r) e) w.drawn) (all_map (λ r e. rw e) (front-all (take b) s.left))
+    drawn = all_append (all_map (λ r e. or_true (take b r) (took m bs r) e) w.drawn) (all_map (λ r e. rw e) (front_all (take b) s.left))
 
     untaken : All (λ r. take b r ≡ false) rest
     untaken = back_none (take b) (laws.closed b) w.sorted
 
     ahead : All (λ r. took m (b ∷ bs) r ≡ false) rest
-    ahead = all_map (λ r e. rw e.0 e.1) (all_both untaken (all_right new (rw front-back w.ahead)))
+    ahead = all_map (λ r e. rw e.0 e.1) (all_both untaken (all_right new (rw front_back w.ahead)))
 
     sorted : Sorted le rest
-    sorted = sorted-right new (rw front-back w.sorted)
+    sorted = sorted_right new (rw front_back w.sorted)
 
     queued : queue ≡ filter (live b) done
-    queued = rw (w.kept b order, filter-append)
+    queued = rw (w.kept b order, filter_append)
 
-    held-queue : held m M bs b ≡ queue
-    held-queue = rw (split, queued) (filter-parted (took m (b ∷ bs)) (live b) done rest drawn ahead)
+    held_queue : held m M bs b ≡ queue
+    held_queue = rw (split, queued) (filter_parted (took m (b ∷ bs)) (live b) done rest drawn ahead)
 
     exact : filter (own m b) queue ≡ due m M b
-    exact = rw (split, queued, filter-filter, filter-ahead (take b) (live b) done rest untaken) (filter-cong (all_of (λ r. and-own (take b r) (live b r)) done))
+    exact = rw (split, queued, filter_filter, filter_ahead (take b) (live b) done rest untaken) (filter_cong (all_of (λ r. and_own (take b r) (live b r)) done))
 
     kept : (c : B) → Since m (b ∷ bs) c → filter (live c) queue ≡ filter (live c) done
     kept c (cons o os) =
-        ap (filter (live c)) queued ∙ filter-filter (live c) (live b) done
-        ∙ filter-cong (all_map (λ r e. and_right (live b r) (live c r) (took-live r (cons (laws.same b) order) o e)) drawn)
+        ap (filter (live c)) queued ∙ filter_filter (live c) (live b) done
+        ∙ filter_cong (all_map (λ r e. and_right (live b r) (live c r) (took_live r (cons (laws.same b) order) o e)) drawn)
 
-    pub step-tells : Tells m M Q bs b (step m Q s b)
-    step-tells = rw (walk-load m Q b (filter (live b) s.queue) s.left (omega (arith, w.room, length-filter (live b) s.queue))) (go (leb (length queue) Q) refl)
+    pub step_tells : Tells m M Q bs b (step m Q s b)
+    step_tells = rw (walk_load m Q b (filter (live b) s.queue) s.left (omega (arith, w.room, length_filter (live b) s.queue))) (go (leb (length queue) Q) refl)
       where
         go : (t : Bool) → leb (length queue) Q ≡ t → Tells m M Q bs b (cond t (some (record { left = rest; queue = queue })) none)
-        go false e = rw held-queue (leb-false (length queue) Q e)
+        go false e = rw held_queue (leb-false (length queue) Q e)
         go true e = record {
-          fits = rw held-queue (leb-true (length queue) Q e);
+          fits = rw held_queue (leb-true (length queue) Q e);
           exact = exact;
           lively = all_append (filter_passes (live b) s.queue) (filter_passes (live b) new);
           swept = record { done = done; split = split; drawn = drawn; ahead = ahead; sorted = sorted; room = leb-true (length queue) Q e; kept = kept };

@@ -33,10 +33,10 @@ module _ {R B : Type 0} (m : Mode R B) (Q : ℕ) (b : B) where
       let more : length (q ++ r ∷ []) ≤ Q = rw length-append (omega (arith, leb-false Q (length q) e)) in
       f (q ++ r ∷ []) more ∙ rw append_assoc
 
-  pub walk-load : (q l : List R) → length q ≤ Q → walk m Q b q l ≡ load Q (q ++ filter (live b) (front (take b) l)) (back (take b) l)
+  pub walk_load : (q l : List R) → length q ≤ Q → walk m Q b q l ≡ load Q (q ++ filter (live b) (front (take b) l)) (back (take b) l)
   unfolding walk
-  walk-load q [] h = rests q [] h
-  walk-load q (r ∷ l) h = go (take b r) (drew q (filter (live b) (front (take b) l)) (back (take b) l) r (λ p. walk m Q b p l) (λ p k. walk-load p l k) h (live b r) (leb Q (length q)) refl)
+  walk_load q [] h = rests q [] h
+  walk_load q (r ∷ l) h = go (take b r) (drew q (filter (live b) (front (take b) l)) (back (take b) l) r (λ p. walk m Q b p l) (λ p k. walk_load p l k) h (live b r) (leb Q (length q)) refl)
     where
       go : (t : Bool) → cond (live b r) (cond (leb Q (length q)) none (walk m Q b (q ++ r ∷ []) l)) (walk m Q b q l) ≡ load Q (q ++ keep (live b r) r (filter (live b) (front (take b) l))) (back (take b) l)
           → cond t (cond (live b r) (cond (leb Q (length q)) none (walk m Q b (q ++ r ∷ []) l)) (walk m Q b q l)) (some (record { left = r ∷ l; queue = q }))

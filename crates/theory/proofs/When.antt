@@ -9,20 +9,20 @@ use native.Mathlib.Omega.{arith}
 use lib.Dec.{eqb, ltb, leb}
 use lib.ListN.{length}
 use borrow.Author.Tests.{ltb-true, ltb-false, lt-ltb, le-ltb, leb-true, leb-false, eqb-true, eq-eqb}
-use Rattle.basics.specs.Lists.{some?, filter, head?, All, nil, cons}
+use Rattle.basics.specs.Lists.{is_some, filter, first_one, All, nil, cons}
 use Rattle.basics.specs.Lex.{lex, Lex}
-use Rattle.basics.proofs.BoolLaws.{and_left, and-also}
-use Rattle.basics.proofs.LexLaws.{lex-true, lex_map, lex-trans}
-use Rattle.basics.proofs.ListLaws.{all_map, all_both, all_of, length-mono}
+use Rattle.basics.proofs.BoolLaws.{and_left, and_also}
+use Rattle.basics.proofs.LexLaws.{lex_true, lex_map, lex_trans}
+use Rattle.basics.proofs.ListLaws.{all_map, all_both, all_of, length_mono}
 use Rattle.rules.specs.declared.Base.{Base}
 use Rattle.rules.specs.declared.Refusal.{Refusal}
 use Rattle.rules.specs.Rows.{Record}
 use Rattle.rules.specs.Overlap.{reaches, lasts, meets, overlaps}
-use Rattle.rules.specs.Bases.{notBefore, inOrder, judge}
-use Rattle.rules.specs.Job.{Job, mergedOf}
+use Rattle.rules.specs.Bases.{not_before, in_order, judge}
+use Rattle.rules.specs.Job.{Job, merged_of}
 use Rattle.rules.specs.Promise.{top, crowds, crowd}
 use Rattle.rules.specs.Demands.{overfull, crowded}
-use Rattle.theory.proofs.Answers.{judge-order}
+use Rattle.theory.proofs.Answers.{judge_order}
 
 -- ---- bases in order
 
@@ -30,23 +30,23 @@ use Rattle.theory.proofs.Answers.{judge-order}
 abbrev Behind : Base → Base → Type 0
 Behind p b = Lex p.chrom.0 b.chrom.0 (p.start ≤ b.start)
 
-not-before : (p b : Base) → notBefore p b ≡ true → Behind p b
-not-before p b e = lex_map (λ (i : lex p.start b.start (leb p.stop b.stop) ≡ true). (lex-true p.start b.start (leb p.stop b.stop) i).below)
-    (lex-true p.chrom.0 b.chrom.0 (lex p.start b.start (leb p.stop b.stop)) e)
+not_before_lem : (p b : Base) → not_before p b ≡ true → Behind p b
+not_before_lem p b e = lex_map (λ (i : lex p.start b.start (leb p.stop b.stop) ≡ true). (lex_true p.start b.start (leb p.stop b.stop) i).below)
+    (lex_true p.chrom.0 b.chrom.0 (lex p.start b.start (leb p.stop b.stop)) e)
 
 -- whatever may follow lies behind all of them
 abbrev Ordered : List Base → Type 0
-Ordered hs = (b : Base) → inOrder (head? hs) b ≡ true → All (λ p. Behind p b) hs
+Ordered hs = (b : Base) → in_order (first_one hs) b ≡ true → All (λ p. Behind p b) hs
 
-ordered : (hs : List Base) (a : Base) → Ordered hs → inOrder (head? hs) a ≡ true → Ordered (a ∷ hs)
+ordered : (hs : List Base) (a : Base) → Ordered hs → in_order (first_one hs) a ≡ true → Ordered (a ∷ hs)
 ordered hs a o e b f =
-    let i : Behind a b = not-before a b f in
-    cons i (all_map (λ p (k : Behind p a). lex-trans {a = p.chrom.0} (λ (x : p.start ≤ a.start) (y : a.start ≤ b.start). omega (arith, x, y)) k i) (o a e))
+    let i : Behind a b = not_before_lem a b f in
+    cons i (all_map (λ p (k : Behind p a). lex_trans {a = p.chrom.0} (λ (x : p.start ≤ a.start) (y : a.start ≤ b.start). omega (arith, x, y)) k i) (o a e))
 
 -- the largest stop is at least the base's own
-top-most : (c n : ℕ) (hs : List Base) → n ≤ top c n hs
-top-most c n [] = omega arith
-top-most c n (p ∷ ps) = go (eqb p.chrom.0 c) (top c n ps) (top-most c n ps)
+top_most : (c n : ℕ) (hs : List Base) → n ≤ top c n hs
+top_most c n [] = omega arith
+top_most c n (p ∷ ps) = go (eqb p.chrom.0 c) (top c n ps) (top_most c n ps)
   where
     go : (u : Bool) (t : ℕ) → n ≤ t → n ≤ cond u (max p.stop t) t
     go true t h = omega (arith, h)
@@ -58,9 +58,9 @@ top-most c n (p ∷ ps) = go (eqb p.chrom.0 c) (top c n ps) (top-most c n ps)
 further : (p b : Base) → eqb p.chrom.0 b.chrom.0 ≡ true → Behind p b → (r : Record) → crowds b p.stop r ≡ true → overlaps p r ≡ true
 further p b e i r h =
     let on : r.it.chrom.0 ≡ b.chrom.0 = eqb-true r.it.chrom.0 b.chrom.0 (and_left (eqb r.it.chrom.0 b.chrom.0) (meets b.start p.stop r.it.start r.it.stop) h) in
-    let m : meets b.start p.stop r.it.start r.it.stop ≡ true = and-also (eqb r.it.chrom.0 b.chrom.0) (meets b.start p.stop r.it.start r.it.stop) h in
+    let m : meets b.start p.stop r.it.start r.it.stop ≡ true = and_also (eqb r.it.chrom.0 b.chrom.0) (meets b.start p.stop r.it.start r.it.stop) h in
     let near : reaches p.stop r.it.start ≡ true = and_left (reaches p.stop r.it.start) (lasts b.start r.it.stop) m in
-    let long : lasts b.start r.it.stop ≡ true = and-also (reaches p.stop r.it.start) (lasts b.start r.it.stop) m in
+    let long : lasts b.start r.it.stop ≡ true = and_also (reaches p.stop r.it.start) (lasts b.start r.it.stop) m in
     let same : p.chrom.0 ≡ b.chrom.0 = eqb-true p.chrom.0 b.chrom.0 e in
     let still : lasts p.start r.it.stop ≡ true = lt-ltb p.start r.it.stop (omega (arith, i.tie same, ltb-true b.start r.it.stop long)) in
     rw (eq-eqb r.it.chrom.0 p.chrom.0 (on ∙ sym same), near, still)
@@ -69,15 +69,15 @@ further p b e i r h =
 own : (b : Base) (hs : List Base) (r : Record) → overlaps b r ≡ true → crowds b (top b.chrom.0 b.stop hs) r ≡ true
 own b hs r h =
     let on : eqb r.it.chrom.0 b.chrom.0 ≡ true = and_left (eqb r.it.chrom.0 b.chrom.0) (meets b.start b.stop r.it.start r.it.stop) h in
-    let m : meets b.start b.stop r.it.start r.it.stop ≡ true = and-also (eqb r.it.chrom.0 b.chrom.0) (meets b.start b.stop r.it.start r.it.stop) h in
+    let m : meets b.start b.stop r.it.start r.it.stop ≡ true = and_also (eqb r.it.chrom.0 b.chrom.0) (meets b.start b.stop r.it.start r.it.stop) h in
     let near : reaches b.stop r.it.start ≡ true = and_left (reaches b.stop r.it.start) (lasts b.start r.it.stop) m in
-    let long : lasts b.start r.it.stop ≡ true = and-also (reaches b.stop r.it.start) (lasts b.start r.it.stop) m in
-    let nearer : reaches (top b.chrom.0 b.stop hs) r.it.start ≡ true = lt-ltb r.it.start (top b.chrom.0 b.stop hs) (omega (arith, ltb-true r.it.start b.stop near, top-most b.chrom.0 b.stop hs)) in
+    let long : lasts b.start r.it.stop ≡ true = and_also (reaches b.stop r.it.start) (lasts b.start r.it.stop) m in
+    let nearer : reaches (top b.chrom.0 b.stop hs) r.it.start ≡ true = lt-ltb r.it.start (top b.chrom.0 b.stop hs) (omega (arith, ltb-true r.it.start b.stop near, top_most b.chrom.0 b.stop hs)) in
     rw (on, nearer, long)
 
 module _ (j : Job) where
   abbrev M : List Record
-  M = mergedOf j
+  M = merged_of j
 
   -- no more than Q records overlap it
   abbrev Few : Base → Type 0
@@ -93,7 +93,7 @@ module _ (j : Job) where
           rw m f
       go false u =
           let m : max p.stop t ≡ p.stop = omega (arith, leb-false p.stop t u) in
-          rw m (omega (arith, few, length-mono {p = crowds b p.stop} {q = overlaps p} (all_of (further p b e i) M)))
+          rw m (omega (arith, few, length_mono {p = crowds b p.stop} {q = overlaps p} (all_of (further p b e i) M)))
 
   counted : (b : Base) (hs : List Base) → All (λ p. Behind p b × Few p) hs → Few b → length (crowd M hs b) ≤ j.room
   counted b [] nil f = f
@@ -108,23 +108,23 @@ module _ (j : Job) where
   same_test b hs k = go (ltb j.room (length (filter (overlaps b) M))) refl
     where
       go : (c : Bool) → ltb j.room (length (filter (overlaps b) M)) ≡ c → ltb j.room (length (crowd M hs b)) ≡ c
-      go true e = lt-ltb j.room (length (crowd M hs b)) (omega (arith, ltb-true j.room (length (filter (overlaps b) M)) e, length-mono {p = overlaps b} {q = crowds b (top b.chrom.0 b.stop hs)} (all_of (own b hs) M)))
+      go true e = lt-ltb j.room (length (crowd M hs b)) (omega (arith, ltb-true j.room (length (filter (overlaps b) M)) e, length_mono {p = overlaps b} {q = crowds b (top b.chrom.0 b.stop hs)} (all_of (own b hs) M)))
       go false e = le-ltb j.room (length (crowd M hs b)) (counted b hs k (omega (arith, ltb-false j.room (length (filter (overlaps b) M)) e)))
 
   -- so 9 comes exactly at the first accepted base that more than Q records overlap
-  pub full-when : (hs bs : List Base) → Ordered hs → All Few hs → overfull j hs bs ≡ crowded j hs bs
-  full-when hs [] o f = refl
-  full-when hs (b ∷ bs) o f = go (judge j.lengths (head? hs) b) refl (full-when hs bs o f) (full-when (b ∷ hs) bs)
+  pub full_when : (hs bs : List Base) → Ordered hs → All Few hs → overfull j hs bs ≡ crowded j hs bs
+  full_when hs [] o f = refl
+  full_when hs (b ∷ bs) o f = go (judge j.lengths (first_one hs) b) refl (full_when hs bs o f) (full_when (b ∷ hs) bs)
     where
-      on : (c : Bool) → ltb j.room (length (filter (overlaps b) M)) ≡ c → inOrder (head? hs) b ≡ true → (Ordered (b ∷ hs) → All Few (b ∷ hs) → overfull j (b ∷ hs) bs ≡ crowded j (b ∷ hs) bs)
+      on : (c : Bool) → ltb j.room (length (filter (overlaps b) M)) ≡ c → in_order (first_one hs) b ≡ true → (Ordered (b ∷ hs) → All Few (b ∷ hs) → overfull j (b ∷ hs) bs ≡ crowded j (b ∷ hs) bs)
           → cond c true (overfull j (b ∷ hs) bs) ≡ cond c true (crowded j (b ∷ hs) bs)
       on true e i more = refl
       on false e i more = more (ordered hs b o i) (cons (omega (arith, ltb-false j.room (length (filter (overlaps b) M)) e)) f)
 
-      go : (x : Option Refusal) → judge j.lengths (head? hs) b ≡ x → overfull j hs bs ≡ crowded j hs bs → (Ordered (b ∷ hs) → All Few (b ∷ hs) → overfull j (b ∷ hs) bs ≡ crowded j (b ∷ hs) bs)
-          → cond (some? x) (overfull j hs bs) (cond (ltb j.room (length (crowd M hs b))) true (overfull j (b ∷ hs) bs))
-          ≡ cond (some? x) (crowded j hs bs) (cond (ltb j.room (length (filter (overlaps b) M))) true (crowded j (b ∷ hs) bs))
+      go : (x : Option Refusal) → judge j.lengths (first_one hs) b ≡ x → overfull j hs bs ≡ crowded j hs bs → (Ordered (b ∷ hs) → All Few (b ∷ hs) → overfull j (b ∷ hs) bs ≡ crowded j (b ∷ hs) bs)
+          → cond (is_some x) (overfull j hs bs) (cond (ltb j.room (length (crowd M hs b))) true (overfull j (b ∷ hs) bs))
+          ≡ cond (is_some x) (crowded j hs bs) (cond (ltb j.room (length (filter (overlaps b) M))) true (crowded j (b ∷ hs) bs))
       go (some x) e same more = same
       go none e same more =
-          let i : inOrder (head? hs) b ≡ true = judge-order j.lengths (head? hs) b e in
+          let i : in_order (first_one hs) b ≡ true = judge_order j.lengths (first_one hs) b e in
           rw (same_test b hs (all_both (o b i) f)) (on (ltb j.room (length (filter (overlaps b) M))) refl i more)

@@ -9,11 +9,11 @@ use Rattle.heads.specs.View.{Cols}
 use Rattle.heads.specs.Move.{Shaped}
 use Rattle.queue.specs.Ring.{Cells}
 use Rattle.runs.specs.declared.Run.{Run}
-use Rattle.runs.specs.View.{headsOf, stageOf, run_of}
+use Rattle.runs.specs.View.{heads_of, stage_of, run_of}
 use Rattle.step.specs.Settle.{Going}
 use Rattle.runs.specs.Start.{Plan, plan, row_in}
 use Rattle.demands.specs.Calls.{Blameless}
-use Rattle.inputs.specs.Texts.{Texts, room, faultOf, job_of}
+use Rattle.inputs.specs.Texts.{Texts, room, fault_of, job_of}
 use Rattle.inputs.specs.Read.{places, Columns, Rooms}
 use Rattle.inputs.specs.declared.Read.{Read}
 
@@ -24,7 +24,7 @@ Own s from a = a.it ≡ row_in s (get_or from a.stream.0 0 + a.row)
 -- the run r, with its queue's memory c, comes back: it is not the cause of 1, and all that is left and all that waits are the columns' own rows
 pub record Comes (s : Cols) (lengths : List ℕ) (r : Run) (c : Cells) : Type 0 where
   pub blameless : Blameless s lengths r c
-  pub whole : Going (stageOf r) → Shaped (headsOf r)
+  pub whole : Going (stage_of r) → Shaped (heads_of r)
   pub room : r.settings.room ≡ room
   pub left : (k : ℕ) → All (Own s r.from) (get_or (run_of s c r).left k [])
   pub queue : All (Own s r.from) (run_of s c r).queue
@@ -38,7 +38,7 @@ pub record Bases (list from to : List ℕ) (b : Cols) (n : ℕ) : Type 0 where
 
 -- texts that were read, with nothing wrong before the run
 pub record Fine (t : Texts) (r : Read) (from to len : List ℕ) (b s : Cols) : Type 0 where
-  pub fine : faultOf t ≡ none
+  pub fine : fault_of t ≡ none
   pub eight : length r.to ≡ 8
   pub rooms : Rooms from to len b s
   pub columns : Columns t r from to len b s
@@ -54,4 +54,4 @@ plan_of r list from to s = plan (record { streams = r.streams; chroms = r.names;
 -- the run that begins is the job's own, with any memory for its queue
 pub record Begins (t : Texts) (n : ℕ) (len : List ℕ) (s : Cols) (r : Run) : Type 0 where
   pub comes : (c : Cells) → Slots c → Comes s (take n len) r c
-  pub fresh-run : (c : Cells) → run_of s c r ≡ fresh (job_of t).streams
+  pub fresh_run_lem : (c : Cells) → run_of s c r ≡ fresh (job_of t).streams

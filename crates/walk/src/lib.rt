@@ -6,8 +6,8 @@ ghost use Rattle.heads.specs.View.{cols};
 ghost use Rattle.pulls.specs.Pulls.{lent};
 ghost use Rattle.runs.specs.Start.{start_of};
 ghost use Rattle.replies.specs.List.{Lists};
-ghost use Rattle.inputs.specs.Texts.{rowsMost, room};
-ghost use Rattle.inputs.specs.Read.{baseIn};
+ghost use Rattle.inputs.specs.Texts.{rows_most, room};
+ghost use Rattle.inputs.specs.Read.{base_in};
 ghost use Rattle.walk.specs.Run.{Bases, plan_of};
 
 use inputs::Read;
@@ -71,7 +71,7 @@ pub fn list_row(
 ) -> Listed
     requires { Bases list.now from.now to.now (cols bchrom.now bstart.now bstop.now) (i + 1) }
     ensures { Lists (cols chrom.now start.now stop.now) lengths.now run
-        (baseIn (cols bchrom.now bstart.now bstop.now) i) i
+        (base_in (cols bchrom.now bstart.now bstop.now) i) i
         (get_or (names list.now from.now to.now) (get_or bchrom.now i 0) [])
         (lent queue.old answers.old)
         out.old at result

@@ -4,7 +4,7 @@ use Prim.Native.Nat.{◌-◌}
 use native.Mathlib.Omega.{arith}
 use borrow.Author.Rules.{rules}
 use borrow.Author.Tests.{not-true, not-false}
-use Rattle.admit.proofs.NamedLaws.{Heading, heading-next, heading-stop, heading-end}
+use Rattle.admit.proofs.NamedLaws.{Heading, heading_next, heading_stop, heading_end}
 use Rattle.admit.proofs.heads_named.Statement.{statement}
 use Rattle.admit.proofs.heads_named.Tie as tie
 
@@ -51,7 +51,7 @@ returns c =
     let at-head-named = c.before in
     let at-loop-test = at-head-named.before.before.before.before.before in
     let at-loop = at-loop-test.before in
-    sym (heading-stop _ _ _ _ _ _ at-loop.loop.invariant _ at-loop-test.loop-test.true at-head-named.head-named.ensures (not-true _ c.if1.true))
+    sym (heading_stop _ _ _ _ _ _ at-loop.loop.invariant _ at-loop-test.loop-test.true at-head-named.head-named.ensures (not-true _ c.if1.true))
 
 add-k : tie.Need-overflow-add-k invariant-loop decreases-loop
 add-k c = search rules
@@ -64,10 +64,10 @@ loop-again c =
     let at-head-named = c.before in
     let at-loop-test = at-head-named.before.before.before.before.before in
     let at-loop = at-loop-test.before in
-    heading-next _ _ _ _ _ _ at-loop.loop.invariant _ at-loop-test.loop-test.true at-head-named.head-named.ensures (not-false _ c.if1.false)
+    heading_next _ _ _ _ _ _ at-loop.loop.invariant _ at-loop-test.loop-test.true at-head-named.head-named.ensures (not-false _ c.if1.false)
 
 returns-2 : tie.Need-returns-2 invariant-loop decreases-loop
-returns-2 c = sym (heading-end _ _ _ _ _ _ c.before.loop.invariant c.loop-test.false)
+returns-2 c = sym (heading_end _ _ _ _ _ _ c.before.loop.invariant c.loop-test.false)
 
 pub heads-named-spec : {M : Type 1} → statement M
 heads-named-spec =

@@ -5,8 +5,8 @@ use borrow.Author.Rules.{rules}
 use borrow.Author.Tests.{not-true, not-false}
 use Rattle.basics.specs.Lists.{Says}
 use Rattle.heads.specs.Move.{PlacedIn}
-use Rattle.admit.specs.Right.{measured, headsNamed, slotsNamed, right}
-use Rattle.admit.proofs.RightLaws.{Measured, measured-says, right-off, right-on}
+use Rattle.admit.specs.Right.{measured, heads_named, slots_named, right}
+use Rattle.admit.proofs.RightLaws.{Measured, measured_says, right_off, right_on}
 use Rattle.admit.proofs.is_right.Statement.{statement}
 use Rattle.admit.proofs.is_right.Tie as tie
 
@@ -20,15 +20,15 @@ sizes c = measured c.args.l c.args.streams c.args.chroms c.args.ring
 
 -- what is left to ask once the streams are placed
 abbrev left : tie.Start → Bool
-left c = headsNamed c.args.streams c.args.ended.now c.args.row.now c.args.from.now c.args.to.now && slotsNamed c.args.streams c.args.from.now c.args.to.now c.args.ring c.args.queue.now
+left c = heads_named c.args.streams c.args.ended.now c.args.row.now c.args.from.now c.args.to.now && slots_named c.args.streams c.args.from.now c.args.to.now c.args.ring c.args.queue.now
 
 off : (c : tie.Start) → sizes c ≡ false → asked c ≡ false
-off c = right-off c.args.l c.args.streams c.args.chroms c.args.ring c.args.ended.now c.args.row.now c.args.next.now c.args.from.now c.args.to.now c.args.queue.now
+off c = right_off c.args.l c.args.streams c.args.chroms c.args.ring c.args.ended.now c.args.row.now c.args.next.now c.args.from.now c.args.to.now c.args.queue.now
 
 on : (c : tie.Start) → sizes c ≡ true → (p : Bool) →
     Says p (PlacedIn c.args.l.chrom c.args.l.start c.args.l.stop c.args.streams c.args.next.now c.args.from.now c.args.to.now) →
     asked c ≡ p && left c
-on c = right-on c.args.l c.args.streams c.args.chroms c.args.ring c.args.ended.now c.args.row.now c.args.next.now c.args.from.now c.args.to.now c.args.queue.now
+on c = right_on c.args.l c.args.streams c.args.chroms c.args.ring c.args.ended.now c.args.row.now c.args.next.now c.args.from.now c.args.to.now c.args.queue.now
 
 -- where the sizes are right
 abbrev start : tie.Else1 → tie.Start
@@ -38,7 +38,7 @@ sized : (c : tie.Else1) → sizes (start c) ≡ true
 sized c = sym c.before.is-measured.ensures ∙ not-false _ c.if1.false
 
 facts : (c : tie.Else1) → Measured (start c).args.l (start c).args.streams (start c).args.chroms (start c).args.ring
-facts c = (measured-says (start c).args.l (start c).args.streams (start c).args.chroms (start c).args.ring).yes (sized c)
+facts c = (measured_says (start c).args.l (start c).args.streams (start c).args.chroms (start c).args.ring).yes (sized c)
 
 -- where the streams are placed too
 onward : (c : tie.Else2) → asked (start c.before.before) ≡ left (start c.before.before)

@@ -4,7 +4,7 @@ use Prim.Native.Nat.{◌-◌}
 use native.Mathlib.Omega.{arith}
 use borrow.Author.Rules.{rules}
 use borrow.Author.Tests.{not-true, not-false}
-use Rattle.admit.proofs.NamedLaws.{Slotting, slotting-next, slotting-stop, slotting-end}
+use Rattle.admit.proofs.NamedLaws.{Slotting, slotting_next, slotting_stop, slotting_end}
 use Rattle.admit.proofs.slots_named.Statement.{statement}
 use Rattle.admit.proofs.slots_named.Tie as tie
 
@@ -48,7 +48,7 @@ returns c =
     let at-loop-test = at-place-of.before in
     let at-loop = at-loop-test.before in
     let at-args = at-loop.before in
-    sym (slotting-stop _ _ _ at-args.args.ring _ _ at-loop.loop.invariant _ _ at-loop-test.loop-test.true at-place-of.place_of.ensures.0 at-slot-named.slot-named.ensures (not-true _ c.if1.true))
+    sym (slotting_stop _ _ _ at-args.args.ring _ _ at-loop.loop.invariant _ _ at-loop-test.loop-test.true at-place-of.place_of.ensures.0 at-slot-named.slot-named.ensures (not-true _ c.if1.true))
 
 add-k : tie.Need-overflow-add-k invariant-loop decreases-loop
 add-k c = search rules
@@ -63,10 +63,10 @@ loop-again c =
     let at-loop-test = at-place-of.before in
     let at-loop = at-loop-test.before in
     let at-args = at-loop.before in
-    slotting-next _ _ _ at-args.args.ring _ _ at-loop.loop.invariant _ _ at-loop-test.loop-test.true at-place-of.place_of.ensures.0 at-slot-named.slot-named.ensures (not-false _ c.if1.false)
+    slotting_next _ _ _ at-args.args.ring _ _ at-loop.loop.invariant _ _ at-loop-test.loop-test.true at-place-of.place_of.ensures.0 at-slot-named.slot-named.ensures (not-false _ c.if1.false)
 
 returns-2 : tie.Need-returns-2 invariant-loop decreases-loop
-returns-2 c = sym (slotting-end _ _ _ c.before.before.args.ring _ _ c.before.loop.invariant c.loop-test.false)
+returns-2 c = sym (slotting_end _ _ _ c.before.before.args.ring _ _ c.before.loop.invariant c.loop-test.false)
 
 pub slots-named-spec : {M : Type 1} → statement M
 slots-named-spec =

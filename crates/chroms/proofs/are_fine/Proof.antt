@@ -2,7 +2,7 @@
 use Prim.Native.Nat.{◌-◌}
 use mathlib.Core.Path.{sym, ◌∙◌}
 use borrow.Author.Tests.{not-true, not-false}
-use Rattle.chroms.proofs.Checks.{Checking, checking-start, checking-bad, checking-next, checking-end}
+use Rattle.chroms.proofs.Checks.{Checking, checking_start, checking_bad, checking_next, checking_end}
 use borrow.Author.Rules.{rules}
 use Rattle.chroms.proofs.are_fine.Statement.{statement}
 use Rattle.chroms.proofs.are_fine.Tie as tie
@@ -17,7 +17,7 @@ abbrev decreases-loop : tie.decreases-loop
 decreases-loop text from to count k₀ k = count - k
 
 loop-holds : tie.Need-loop-init invariant-loop decreases-loop
-loop-holds c = checking-start _ _ _
+loop-holds c = checking_start _ _ _
 
 is-fine-requires : tie.Need-is-fine-requires invariant-loop decreases-loop
 is-fine-requires c κs = search rules
@@ -28,7 +28,7 @@ returns c =
     let at-loop-test = at-is-fine.before in
     let at-loop = at-loop-test.before in
     let at_pre = at-loop.before.before.before.before in
-    sym (checking-bad at-loop.loop.invariant at_pre.requires at-loop-test.loop-test.true (sym at-is-fine.is-fine.ensures ∙ not-true _ c.if1.true))
+    sym (checking_bad at-loop.loop.invariant at_pre.requires at-loop-test.loop-test.true (sym at-is-fine.is-fine.ensures ∙ not-true _ c.if1.true))
 
 add-k : tie.Need-overflow-add-k invariant-loop decreases-loop
 add-k c = search rules
@@ -42,10 +42,10 @@ loop-again c =
     let at-loop-test = at-is-fine.before in
     let at-loop = at-loop-test.before in
     let at_pre = at-loop.before.before.before.before in
-    checking-next at-loop.loop.invariant at_pre.requires at-loop-test.loop-test.true (sym at-is-fine.is-fine.ensures ∙ not-false _ c.if1.false)
+    checking_next at-loop.loop.invariant at_pre.requires at-loop-test.loop-test.true (sym at-is-fine.is-fine.ensures ∙ not-false _ c.if1.false)
 
 returns-2 : tie.Need-returns-2 invariant-loop decreases-loop
-returns-2 c = sym (checking-end c.before.loop.invariant c.loop-test.false)
+returns-2 c = sym (checking_end c.before.loop.invariant c.loop-test.false)
 
 pub are-fine-spec : {M : Type 1} → statement M
 are-fine-spec =

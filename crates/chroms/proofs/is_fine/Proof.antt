@@ -1,8 +1,8 @@
 -- `chroms::is_fine` meets its contract: each way to end is a law of the check. Assumes nothing.
 use mathlib.Core.Path.{sym}
 use native.Mathlib.Omega.{arith}
-use Rattle.fields.proofs.Naming.{within_even, within_low, within-high}
-use Rattle.chroms.proofs.Checks.{fine-empty, fine-long, fine-alone, fine-twice}
+use Rattle.fields.proofs.Naming.{within_even, within_low, within_high}
+use Rattle.chroms.proofs.Checks.{fine_empty, fine_long, fine_alone, fine_twice}
 use borrow.Author.Rules.{rules}
 use Rattle.chroms.proofs.is_fine.Statement.{statement}
 use Rattle.chroms.proofs.is_fine.Tie as tie
@@ -30,12 +30,12 @@ sub-size c =
 returns : tie.Need-returns
 returns c =
     let at-args = c.before.before.before.before.before.before in
-    sym (fine-empty at-args.args.text.now at-args.args.from.now at-args.args.to.now at-args.requires.0 _ at-args.requires.1 c.if1.true)
+    sym (fine_empty at-args.args.text.now at-args.args.from.now at-args.args.to.now at-args.requires.0 _ at-args.requires.1 c.if1.true)
 
 returns-2 : tie.Need-returns-2
 returns-2 c =
     let at-args = c.before.before.before.before.before.before.before in
-    sym (fine-long at-args.args.text.now at-args.args.from.now at-args.args.to.now at-args.requires.0 _ at-args.requires.1 c.if2.true)
+    sym (fine_long at-args.args.text.now at-args.args.from.now at-args.args.to.now at-args.requires.0 _ at-args.requires.1 c.if2.true)
 
 add-find-in : tie.Need-overflow-add-find-in
 add-find-in c = search rules
@@ -49,7 +49,7 @@ part-find-in-start c = search rules
 part-find-in-end : tie.Need-slice-bounds-find-in-end
 part-find-in-end c =
     let at_pre = c.before.before.before.before.before.before.before in
-    within-high _ _ _ _ at_pre.requires.1 at_pre.requires.0
+    within_high _ _ _ _ at_pre.requires.1 at_pre.requires.0
 
 find-in-requires : tie.Need-find-in-requires
 find-in-requires c κs = search rules
@@ -60,7 +60,7 @@ returns-3 c =
     let at-if2 = at-find-in.before.before in
     let at-if1 = at-if2.before in
     let at_pre = at-if1.before.before.before.before.before.before in
-    sym (fine-alone _ _ _ at_pre.requires.0 _ at_pre.requires.1 at-if1.if1.false at-if2.if2.false _ at-find-in.find-in.ensures c.if3.true)
+    sym (fine_alone _ _ _ at_pre.requires.0 _ at_pre.requires.1 at-if1.if1.false at-if2.if2.false _ at-find-in.find-in.ensures c.if3.true)
 
 returns-4 : tie.Need-returns-4
 returns-4 c =
@@ -68,7 +68,7 @@ returns-4 c =
     let at-if2 = at-find-in.before.before in
     let at-if1 = at-if2.before in
     let at_pre = at-if1.before.before.before.before.before.before in
-    sym (fine-twice _ _ _ at_pre.requires.0 _ at_pre.requires.1 at-if1.if1.false at-if2.if2.false _ at-find-in.find-in.ensures c.if3.false)
+    sym (fine_twice _ _ _ at_pre.requires.0 _ at_pre.requires.1 at-if1.if1.false at-if2.if2.false _ at-find-in.find-in.ensures c.if3.false)
 
 pub is-fine-spec : {M : Type 1} → statement M
 is-fine-spec =

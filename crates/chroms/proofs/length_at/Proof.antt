@@ -1,7 +1,7 @@
 -- `chroms::length_at` meets its contract: each way to end is a law of the line. Assumes nothing.
 use mathlib.Core.Path.{sym, ◌∙◌}
 use native.Mathlib.Omega.{arith}
-use Rattle.chroms.proofs.Entries.{two-bad, two_none, two-lf, three, length_to}
+use Rattle.chroms.proofs.Entries.{two_bad, two_none, two_lf, three, length_to}
 use borrow.Author.Rules.{rules}
 use Rattle.chroms.proofs.length_at.Statement.{statement}
 use Rattle.chroms.proofs.length_at.Tie as tie
@@ -50,13 +50,13 @@ returns-2 c =
     let at-number-at = at_n.before.before in
     let at_pre = at-number-at.before.before in
     let f = length_to at_pre.requires.0 at_pre.requires.1 at_pre.requires.2 _ _ (sym at-number-at.number_at.ensures ∙ at_n.n.given.1) in
-    two-lf at_pre.requires.0 at_pre.requires.1 at_pre.requires.2 _ _ (sym at-number-at.number_at.ensures ∙ at_n.n.given.1) (omega (arith, f.inside)) c.if2.true
+    two_lf at_pre.requires.0 at_pre.requires.1 at_pre.requires.2 _ _ (sym at-number-at.number_at.ensures ∙ at_n.n.given.1) (omega (arith, f.inside)) c.if2.true
 
 returns-3 : tie.Need-returns-3
 returns-3 c =
     let at-number-at = c.before.before in
     let at_pre = at-number-at.before.before in
-    two-bad at_pre.requires.0 at_pre.requires.1 at_pre.requires.2 (sym at-number-at.number_at.ensures ∙ c.enum_told.given.1)
+    two_bad at_pre.requires.0 at_pre.requires.1 at_pre.requires.2 (sym at-number-at.number_at.ensures ∙ c.enum_told.given.1)
 
 returns-4 : tie.Need-returns-4
 returns-4 c =

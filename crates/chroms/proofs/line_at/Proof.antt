@@ -1,6 +1,6 @@
 -- `chroms::line_at` meets its contract: each way to end is a law of the line. Assumes nothing.
 use native.Mathlib.Omega.{arith}
-use Rattle.chroms.proofs.Entries.{one_none, one-lf}
+use Rattle.chroms.proofs.Entries.{one_none, one_lf}
 use borrow.Author.Rules.{rules}
 use Rattle.chroms.proofs.line_at.Statement.{statement}
 use Rattle.chroms.proofs.line_at.Tie as tie
@@ -28,7 +28,7 @@ add-t5 : tie.Need-overflow-add-t5
 add-t5 c = search rules
 
 returns-3 : tie.Need-returns-3
-returns-3 c = one-lf c.before.before.before.field-end.ensures (omega arith) c.if2.false
+returns-3 c = one_lf c.before.before.before.field-end.ensures (omega arith) c.if2.false
 
 pub line-at-spec : {M : Type 1} → statement M
 line-at-spec =

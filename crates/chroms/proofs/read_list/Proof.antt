@@ -4,9 +4,9 @@ use native.Mathlib.Omega.{arith}
 use lib.ListN.{length}
 use borrow.Author.Tests.{ne_eqb}
 use Rattle.fields.proofs.Both.{and_no}
-use Rattle.fields.proofs.Tables.{Filling, fill_start, fill_none, fill-pass, fill-put, fill-bad, fill-full, fill_end}
-use Rattle.chroms.specs.Entry.{entry_of, fromOf, toOf, len_of}
-use Rattle.chroms.proofs.Entries.{line-not, line-is, line-next, list_read}
+use Rattle.fields.proofs.Tables.{Filling, fill_start, fill_none, fill_pass, fill_put, fill_bad, fill_full, fill_end}
+use Rattle.chroms.specs.Entry.{entry_of, from_of, to_of, len_of}
+use Rattle.chroms.proofs.Entries.{line_not, line_is, line_next, list_read}
 use borrow.Author.Rules.{rules}
 use Rattle.chroms.proofs.read_list.Statement.{statement}
 use Rattle.chroms.proofs.read_list.Tie as tie
@@ -16,19 +16,19 @@ use Rattle.chroms.proofs.line_at.Reads as line-at-reads
 use Rattle.fields.proofs.past.Reads as past-reads
 
 abbrev invariant-loop : tie.invariant-loop
-invariant-loop text from₀ to₀ len₀ room end n₀ at₀ from to len n at = Filling entry_of fromOf toOf len_of text from₀ to₀ len₀ from to len n at
+invariant-loop text from₀ to₀ len₀ room end n₀ at₀ from to len n at = Filling entry_of from_of to_of len_of text from₀ to₀ len₀ from to len n at
 
 abbrev decreases-loop : tie.decreases-loop
 decreases-loop text from₀ to₀ len₀ room end n₀ at₀ from to len n at = end - at
 
 returns : tie.Need-returns invariant-loop decreases-loop
-returns c = fill_none fromOf toOf len_of _ _ _ _ (rw (ne_eqb _ _ c.if1.true))
+returns c = fill_none from_of to_of len_of _ _ _ _ (rw (ne_eqb _ _ c.if1.true))
 
 returns-2 : tie.Need-returns-2 invariant-loop decreases-loop
-returns-2 c = fill_none fromOf toOf len_of _ _ _ _ (rw (and_no _ _ (ne_eqb _ _ c.if2.true)))
+returns-2 c = fill_none from_of to_of len_of _ _ _ _ (rw (and_no _ _ (ne_eqb _ _ c.if2.true)))
 
 loop-holds : tie.Need-loop-init invariant-loop decreases-loop
-loop-holds c = fill_start entry_of fromOf toOf len_of _ _ _ _ (omega arith) (omega arith)
+loop-holds c = fill_start entry_of from_of to_of len_of _ _ _ _ (omega arith) (omega arith)
 
 past-requires : tie.Need-past-requires invariant-loop decreases-loop
 past-requires c κs = search rules
@@ -37,7 +37,7 @@ loop-less : tie.Need-loop-smaller invariant-loop decreases-loop
 loop-less c = omega (arith, c.before.past.ensures.next c.if3.true)
 
 loop-again : tie.Need-loop-preserved invariant-loop decreases-loop
-loop-again c = fill-pass c.before.before.before.loop.invariant c.before.past.ensures c.if3.true
+loop-again c = fill_pass c.before.before.before.loop.invariant c.before.past.ensures c.if3.true
 
 line-at-requires : tie.Need-line-at-requires invariant-loop decreases-loop
 line-at-requires c κs = search rules
@@ -65,7 +65,7 @@ returns-3 c =
     let at-loop = at-past.before.before in
     let at-if2 = at-loop.before in
     let at-if1 = at-if2.before in
-    fill-bad at-loop.loop.invariant _ (list_read _ _ _ _ at-if1.if1.false at-if2.if2.false) at-past.past.ensures at-if3.if3.false (line-not at-line-at.line_at_lem.ensures c.enum_told.given.1)
+    fill_bad at-loop.loop.invariant _ (list_read _ _ _ _ at-if1.if1.false at-if2.if2.false) at-past.past.ensures at-if3.if3.false (line_not at-line-at.line_at_lem.ensures c.enum_told.given.1)
 
 same-length-4 : tie.Need-same-length-4 invariant-loop decreases-loop
 same-length-4 c = search rules
@@ -85,7 +85,7 @@ returns-4 c =
     let at-loop = at-past.before.before in
     let at-if2 = at-loop.before in
     let at-if1 = at-if2.before in
-    fill-full at-loop.loop.invariant _ (list_read _ _ _ _ at-if1.if1.false at-if2.if2.false) at-past.past.ensures at-if3.if3.false _ (line-is at-line-at.line_at_lem.ensures at-l.l.given.1) c.if4.true
+    fill_full at-loop.loop.invariant _ (list_read _ _ _ _ at-if1.if1.false at-if2.if2.false) at-past.past.ensures at-if3.if3.false _ (line_is at-line-at.line_at_lem.ensures at-l.l.given.1) c.if4.true
 
 mul-from : tie.Need-overflow-mul-from invariant-loop decreases-loop
 mul-from c = search rules
@@ -109,7 +109,7 @@ add-n : tie.Need-overflow-add-n invariant-loop decreases-loop
 add-n c = search rules
 
 loop-less-2 : tie.Need-loop-smaller-2 invariant-loop decreases-loop
-loop-less-2 c = omega (arith, line-next c.before.before.before.before.line_at_lem.ensures c.before.before.l.given.1)
+loop-less-2 c = omega (arith, line_next c.before.before.before.before.line_at_lem.ensures c.before.before.l.given.1)
 
 loop-again-2 : tie.Need-loop-preserved-2 invariant-loop decreases-loop
 loop-again-2 c =
@@ -118,7 +118,7 @@ loop-again-2 c =
     let at-if3 = at-line-at.before in
     let at-past = at-if3.before in
     let at-loop = at-past.before.before in
-    fill-put at-loop.loop.invariant at-past.past.ensures at-if3.if3.false (line-next at-line-at.line_at_lem.ensures at-l.l.given.1) _ (line-is at-line-at.line_at_lem.ensures at-l.l.given.1) (omega arith)
+    fill_put at-loop.loop.invariant at-past.past.ensures at-if3.if3.false (line_next at-line-at.line_at_lem.ensures at-l.l.given.1) _ (line_is at-line-at.line_at_lem.ensures at-l.l.given.1) (omega arith)
 
 same-length-7 : tie.Need-same-length-7 invariant-loop decreases-loop
 same-length-7 c = search rules

@@ -2,7 +2,7 @@
 use Prim.Native.Nat.{◌-◌}
 use mathlib.Core.Path.{sym}
 use native.Mathlib.Omega.{arith}
-use Rattle.fields.proofs.Naming.{Within, within-start, within-uneven, within-back, within-past, within-next, within_end}
+use Rattle.fields.proofs.Naming.{Within, within_start, within_uneven, within_back, within_past, within_next, within_end}
 use borrow.Author.Rules.{rules}
 use Rattle.fields.proofs.all_within.Statement.{statement}
 use Rattle.fields.proofs.all_within.Tie as tie
@@ -16,10 +16,10 @@ abbrev decreases-loop : tie.decreases-loop
 decreases-loop n from to count k₀ k = count - k
 
 returns : tie.Need-returns invariant-loop decreases-loop
-returns c = sym (within-uneven _ _ _ c.if1.true)
+returns c = sym (within_uneven _ _ _ c.if1.true)
 
 loop-holds : tie.Need-loop-init invariant-loop decreases-loop
-loop-holds c = within-start _ _ _ (omega arith)
+loop-holds c = within_start _ _ _ (omega arith)
 
 mul-f : tie.Need-overflow-mul-f invariant-loop decreases-loop
 mul-f c = search rules
@@ -34,10 +34,10 @@ shared-slice-read-t : tie.Need-shared-slice-read-t invariant-loop decreases-loop
 shared-slice-read-t c = search rules
 
 returns-2 : tie.Need-returns-2 invariant-loop decreases-loop
-returns-2 c = sym (within-back c.before.before.before.before.loop.invariant c.before.before.before.loop-test.true (omega arith) c.if2.true)
+returns-2 c = sym (within_back c.before.before.before.before.loop.invariant c.before.before.before.loop-test.true (omega arith) c.if2.true)
 
 returns-3 : tie.Need-returns-3 invariant-loop decreases-loop
-returns-3 c = sym (within-past c.before.before.before.before.before.loop.invariant c.before.before.before.before.loop-test.true (omega arith) c.if3.true)
+returns-3 c = sym (within_past c.before.before.before.before.before.loop.invariant c.before.before.before.before.loop-test.true (omega arith) c.if3.true)
 
 add-k : tie.Need-overflow-add-k invariant-loop decreases-loop
 add-k c = search rules
@@ -50,7 +50,7 @@ loop-again c =
     let at-if2 = c.before in
     let at-loop-test = at-if2.before.before.before in
     let at-loop = at-loop-test.before in
-    within-next at-loop.loop.invariant at-loop-test.loop-test.true (omega arith) at-if2.if2.false c.if3.false
+    within_next at-loop.loop.invariant at-loop-test.loop-test.true (omega arith) at-if2.if2.false c.if3.false
 
 returns-4 : tie.Need-returns-4 invariant-loop decreases-loop
 returns-4 c = sym (within_end c.before.loop.invariant c.loop-test.false)

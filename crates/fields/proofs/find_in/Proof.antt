@@ -2,7 +2,7 @@
 use Prim.Native.Nat.{◌-◌}
 use mathlib.Core.Path.{sym, ◌∙◌}
 use native.Mathlib.Omega.{arith}
-use Rattle.fields.proofs.Naming.{Seeking, seeking-start, seeking-found, seeking-next, seeking-end, within_low, within-high}
+use Rattle.fields.proofs.Naming.{Seeking, seeking_start, seeking_found, seeking_next, seeking_end, within_low, within_high}
 use borrow.Author.Rules.{rules}
 use Rattle.fields.proofs.find_in.Statement.{statement}
 use Rattle.fields.proofs.find_in.Tie as tie
@@ -17,7 +17,7 @@ abbrev decreases-loop : tie.decreases-loop
 decreases-loop text from to first name count k₀ k = count - k
 
 loop-holds : tie.Need-loop-init invariant-loop decreases-loop
-loop-holds c = seeking-start _ _ _ _ _ c.before.before.before.before.requires.0 c.before.before.before.before.requires.1
+loop-holds c = seeking_start _ _ _ _ _ c.before.before.before.before.requires.0 c.before.before.before.before.requires.1
 
 mul-f : tie.Need-overflow-mul-f invariant-loop decreases-loop
 mul-f c = search rules
@@ -35,14 +35,14 @@ is-name-requires : tie.Need-is-name-requires invariant-loop decreases-loop
 is-name-requires c κs =
     let at-loop-test = c.before.before in
     let at_pre = at-loop-test.before.before.before.before.before.before in
-    (within_low _ _ _ _ at-loop-test.loop-test.true at_pre.requires.0, within-high _ _ _ _ at-loop-test.loop-test.true at_pre.requires.0)
+    (within_low _ _ _ _ at-loop-test.loop-test.true at_pre.requires.0, within_high _ _ _ _ at-loop-test.loop-test.true at_pre.requires.0)
 
 returns : tie.Need-returns invariant-loop decreases-loop
 returns c =
     let at-is-name = c.before in
     let at-loop-test = at-is-name.before.before.before in
     let at-loop = at-loop-test.before in
-    seeking-found at-loop.loop.invariant at-loop-test.loop-test.true (sym at-is-name.is_name.ensures ∙ c.if1.true)
+    seeking_found at-loop.loop.invariant at-loop-test.loop-test.true (sym at-is-name.is_name.ensures ∙ c.if1.true)
 
 add-k : tie.Need-overflow-add-k invariant-loop decreases-loop
 add-k c = search rules
@@ -55,10 +55,10 @@ loop-again c =
     let at-is-name = c.before in
     let at-loop-test = at-is-name.before.before.before in
     let at-loop = at-loop-test.before in
-    seeking-next at-loop.loop.invariant at-loop-test.loop-test.true (sym at-is-name.is_name.ensures ∙ c.if1.false)
+    seeking_next at-loop.loop.invariant at-loop-test.loop-test.true (sym at-is-name.is_name.ensures ∙ c.if1.false)
 
 returns-2 : tie.Need-returns-2 invariant-loop decreases-loop
-returns-2 c = seeking-end c.before.loop.invariant c.loop-test.false
+returns-2 c = seeking_end c.before.loop.invariant c.loop-test.false
 
 pub find-in-spec : {M : Type 1} → statement M
 find-in-spec =

@@ -2,7 +2,7 @@
 use Prim.Native.Nat.{◌-◌}
 use mathlib.Core.Path.{sym}
 use native.Mathlib.Omega.{arith}
-use Rattle.fields.proofs.Naming.{Alike, alike-start, alike-other, alike_next, alike_end, alike-uneven}
+use Rattle.fields.proofs.Naming.{Alike, alike_start, alike_other, alike_next, alike_end, alike_uneven}
 use borrow.Author.Rules.{rules}
 use Rattle.fields.proofs.is_name.Statement.{statement}
 use Rattle.fields.proofs.is_name.Tie as tie
@@ -19,10 +19,10 @@ sub-if1 : tie.Need-overflow-sub-if1 invariant-loop decreases-loop
 sub-if1 c = search rules
 
 returns : tie.Need-returns invariant-loop decreases-loop
-returns c = sym (alike-uneven _ _ _ _ c.before.requires.0 c.before.requires.1 c.if1.true)
+returns c = sym (alike_uneven _ _ _ _ c.before.requires.0 c.before.requires.1 c.if1.true)
 
 loop-holds : tie.Need-loop-init invariant-loop decreases-loop
-loop-holds c = alike-start _ _ _ _ (omega arith)
+loop-holds c = alike_start _ _ _ _ (omega arith)
 
 add_at : tie.Need-overflow-add-at invariant-loop decreases-loop
 add_at c = search rules
@@ -38,7 +38,7 @@ returns-2 c =
     let at-loop-test = c.before.before.before in
     let at-loop = at-loop-test.before in
     let at_pre = at-loop.before.before in
-    sym (alike-other at-loop.loop.invariant at_pre.requires.1 at-loop-test.loop-test.true c.if2.true)
+    sym (alike_other at-loop.loop.invariant at_pre.requires.1 at-loop-test.loop-test.true c.if2.true)
 
 add-i : tie.Need-overflow-add-i invariant-loop decreases-loop
 add-i c = search rules

@@ -2,8 +2,8 @@
 use Prim.Native.Nat.{◌-◌}
 use native.Mathlib.Omega.{arith}
 use lib.ListN.{length}
-use Rattle.fields.specs.Scan.{inLine, Walk}
-use Rattle.fields.proofs.Scan.{walk_start, walk-in, walk-out, walk_none, lf-ends, line-in}
+use Rattle.fields.specs.Scan.{in_line, Walk}
+use Rattle.fields.proofs.Scan.{walk_start, walk_in, walk_out, walk_none, lf_ends, line_in}
 use borrow.Author.Rules.{rules}
 use Rattle.fields.proofs.next_line.Statement.{statement}
 use Rattle.fields.proofs.next_line.Tie as tie
@@ -11,7 +11,7 @@ use Rattle.fields.proofs.next_line.Reads as reads
 use Rattle.fields.proofs.next_line.Lts as lts
 
 abbrev invariant-loop : tie.invariant-loop
-invariant-loop text from end i₀ i = Walk inLine text from i
+invariant-loop text from end i₀ i = Walk in_line text from i
 
 abbrev decreases-loop : tie.decreases-loop
 decreases-loop text from end i₀ i = end - i
@@ -26,13 +26,13 @@ add-i : tie.Need-overflow-add-i invariant-loop decreases-loop
 add-i c = search rules
 
 returns : tie.Need-returns invariant-loop decreases-loop
-returns c = omega (arith, walk-out c.before.before.before.loop.invariant c.before.before.loop-test.true (lf-ends _ c.if1.true))
+returns c = omega (arith, walk_out c.before.before.before.loop.invariant c.before.before.loop-test.true (lf_ends _ c.if1.true))
 
 loop-less : tie.Need-loop-smaller invariant-loop decreases-loop
 loop-less c = search rules
 
 loop-again : tie.Need-loop-preserved invariant-loop decreases-loop
-loop-again c = walk-in c.before.before.before.loop.invariant c.before.before.loop-test.true (line-in _ c.if1.false)
+loop-again c = walk_in c.before.before.before.loop.invariant c.before.before.loop-test.true (line_in _ c.if1.false)
 
 returns-2 : tie.Need-returns-2 invariant-loop decreases-loop
 returns-2 c = omega (arith, walk_none c.before.loop.invariant c.loop-test.false)

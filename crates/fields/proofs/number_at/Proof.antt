@@ -1,8 +1,8 @@
 -- `fields::number_at` meets its contract: 19 digits at most are counted, and the byte behind them decides. Assumes nothing.
 use mathlib.Core.Path.{sym}
 use native.Mathlib.Omega.{arith}
-use Rattle.fields.proofs.Scan.{tab_out, lf-out, field_in}
-use Rattle.fields.proofs.Numbers.{counting-few, number-empty, number-other, number-last, number-before}
+use Rattle.fields.proofs.Scan.{tab_out, lf_out, field_in}
+use Rattle.fields.proofs.Numbers.{counting_few, number_empty, number_other, number_last, number_before}
 use borrow.Author.Rules.{rules}
 use Rattle.fields.proofs.number_at.Statement.{statement}
 use Rattle.fields.proofs.number_at.Tie as tie
@@ -24,12 +24,12 @@ digits-from-requires c κs = search rules
 returns : tie.Need-returns
 returns c =
     let r = c.before.digits_from.ensures in
-    sym (number-empty r.counting c.if1.true (λ h. r.stopped (omega (arith, h))))
+    sym (number_empty r.counting c.if1.true (λ h. r.stopped (omega (arith, h))))
 
 returns-2 : tie.Need-returns-2
 returns-2 c =
     let r = c.before.before.digits_from.ensures in
-    sym (number-last r.counting (omega (arith, r.counting.low)) (omega arith) (omega (arith, counting-few r.counting 19 (omega arith))) c.if2.true)
+    sym (number_last r.counting (omega (arith, r.counting.low)) (omega arith) (omega (arith, counting_few r.counting 19 (omega arith))) c.if2.true)
 
 shared-slice-read-b : tie.Need-shared-slice-read-b
 shared-slice-read-b c = search rules
@@ -37,17 +37,17 @@ shared-slice-read-b c = search rules
 returns-3 : tie.Need-returns-3
 returns-3 c =
     let r = c.before.before.before.before.digits_from.ensures in
-    sym (number-before r.counting (omega (arith, r.counting.low)) (omega arith) (omega (arith, counting-few r.counting 19 (omega arith))) (omega arith) (tab_out _ c.if3.true))
+    sym (number_before r.counting (omega (arith, r.counting.low)) (omega arith) (omega (arith, counting_few r.counting 19 (omega arith))) (omega arith) (tab_out _ c.if3.true))
 
 returns-4 : tie.Need-returns-4
 returns-4 c =
     let r = c.before.before.before.before.before.digits_from.ensures in
-    sym (number-before r.counting (omega (arith, r.counting.low)) (omega arith) (omega (arith, counting-few r.counting 19 (omega arith))) (omega arith) (lf-out _ c.if4.true))
+    sym (number_before r.counting (omega (arith, r.counting.low)) (omega arith) (omega (arith, counting_few r.counting 19 (omega arith))) (omega arith) (lf_out _ c.if4.true))
 
 returns-5 : tie.Need-returns-5
 returns-5 c =
     let r = c.before.before.before.before.before.before.digits_from.ensures in
-    sym (number-other r.counting (omega arith) (field_in _ c.before.before.if3.false c.before.if4.false) (r.stopped (omega arith)))
+    sym (number_other r.counting (omega arith) (field_in _ c.before.before.if3.false c.before.if4.false) (r.stopped (omega arith)))
 
 twentieth-requires : tie.Need-twentieth-requires
 twentieth-requires c κs =

@@ -2,7 +2,7 @@
 use Rattle.fragment_columns.proofs.Parts.{laid, marks}
 use Rattle.layouts.specs.Layout.{layout}
 use Rattle.layouts.specs.Columns.{columns, over}
-use Rattle.layouts.specs.Given.{markOf}
+use Rattle.layouts.specs.Given.{mark_of}
 use Rattle.spans.specs.Spans.{spans}
 use lib.ListN.{replicate}
 use native.Mathlib.Omega.{arith}
@@ -18,24 +18,24 @@ mark-of-requires c κs = tt
 fill-requires : tie.Need-fill-requires
 fill-requires c κs =
     let at_pre = c.before.before.before.before.before.before.before.before.before.before.before in
-    at_pre.requires.1.present-fits
+    at_pre.requires.1.present_fits
 
 lay-parts-requires : tie.Need-lay-parts-requires
 lay-parts-requires c κs =
     let at_pre = c.before.before.before.before.before.before.before.before.before.before.before.before.before.before.before.before in
-    (at_pre.requires.0, at_pre.requires.1.fragments, at_pre.requires.1.bstart-fits, at_pre.requires.1.bstop-fits)
+    (at_pre.requires.0, at_pre.requires.1.fragments, at_pre.requires.1.bstart_fits, at_pre.requires.1.bstop_fits)
 
 lay-ranges-requires : tie.Need-lay-ranges-requires
 lay-ranges-requires c κs =
     let at_pre = c.before.before.before.before.before.before.before.before.before.before.before.before.before.before.before.before.before.before.before.before.before.before.before in
-    (at_pre.requires.0, at_pre.requires.1.fragments, at_pre.requires.1.pieces, at_pre.requires.1.from-fits, at_pre.requires.1.to-fits)
+    (at_pre.requires.0, at_pre.requires.1.fragments, at_pre.requires.1.pieces, at_pre.requires.1.from_fits, at_pre.requires.1.to_fits)
 
 lay-pieces-requires : tie.Need-lay-pieces-requires
 lay-pieces-requires c κs =
     let at-args = c.before.before.before.before.before.before.before.before.before.before.before.before.before.before.before.before.before.before.before.before.before.before.before.before.before.before.before.before.before.before in
     let a = at-args.args in
     let h = at-args.requires.1 in
-    (at-args.requires.0, h.fragments, omega (arith, h.pieces, h.pstart-fits), omega (arith, h.pieces, h.pstop-fits))
+    (at-args.requires.0, h.fragments, omega (arith, h.pieces, h.pstart_fits), omega (arith, h.pieces, h.pstop_fits))
 
 same_length : tie.Need-same-length
 same_length c =
@@ -80,7 +80,7 @@ returns c =
     laid (layout a.rule a.base (spans a.starts.now a.stops.now))
     (columns a.present.now a.bstart.now a.bstop.now a.from.now a.to.now a.pstart.now a.pstop.now)
     (at_fill_lem.fill.ensures ∙ ap (λ (l : List ℕ). over l a.present.now)
-    (ap (replicate a.n) at-mark-of.mark_of.ensures ∙ ap (λ (k : ℕ). replicate k (markOf p)) h.fragments ∙ marks p a.base (spans a.starts.now a.stops.now)))
+    (ap (replicate a.n) at-mark-of.mark_of.ensures ∙ ap (λ (k : ℕ). replicate k (mark_of p)) h.fragments ∙ marks p a.base (spans a.starts.now a.stops.now)))
     at-lay-parts.lay-parts.ensures at-lay-ranges.lay-ranges.ensures at-lay-pieces.lay-pieces.ensures
 
 pub lay-spec : {M : Type 1} → statement M

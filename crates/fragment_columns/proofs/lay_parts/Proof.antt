@@ -1,8 +1,8 @@
 -- `fragment_columns::lay_parts` meets its contract: a case for each way to part. Assumes nothing.
-use Rattle.fragment_columns.proofs.Parts.{same-bare, same-single, same-records, clips-stand, gaps-stand}
-use Rattle.span_columns.proofs.Writing.{fits-front, fronts, fronts-as, fronts-alike}
-use Rattle.layouts.specs.Columns.{partStart, partStop}
-use Rattle.layouts.specs.Given.{allGiven}
+use Rattle.fragment_columns.proofs.Parts.{same_bare, same_single, same_records, clips_stand, gaps_stand}
+use Rattle.span_columns.proofs.Writing.{fits_front, fronts, fronts_as, fronts_alike}
+use Rattle.layouts.specs.Columns.{part_start, part_stop}
+use Rattle.layouts.specs.Given.{all_given}
 use Rattle.layouts.specs.Fragments.{gaps}
 use Rattle.spans.specs.Spans.{spans}
 use Rattle.fragment_rules.specs.declared.Giving.TheVariants.{Clip}
@@ -44,8 +44,8 @@ put-all-requires c κs =
     let at-args = at-enum-told4.before.before.before.before.before.before in
     let a = at-args.args in
     let h = at-args.requires in
-    let s = clips-stand a.parting a.base (spans a.starts.now a.stops.now) at-enum-told4.enum-told4.given.1 in
-    (h.0, (fits-front (allGiven Clip a.base (spans a.starts.now a.stops.now)) a.bstart.now a.bstop.now (h.1 ∙ s.count) h.2 h.3))
+    let s = clips_stand a.parting a.base (spans a.starts.now a.stops.now) at-enum-told4.enum-told4.given.1 in
+    (h.0, (fits_front (all_given Clip a.base (spans a.starts.now a.stops.now)) a.bstart.now a.bstop.now (h.1 ∙ s.count) h.2 h.3))
 
 enum-told-5 : tie.Need-enum-told-5
 enum-told-5 c = search rules
@@ -56,8 +56,8 @@ put-gaps-requires c κs =
     let at-args = at-enum-told5.before.before.before.before.before.before in
     let a = at-args.args in
     let h = at-args.requires in
-    let s = gaps-stand a.parting a.base (spans a.starts.now a.stops.now) at-enum-told5.enum-told5.given.1 in
-    (h.0, (fits-front (gaps a.base (spans a.starts.now a.stops.now)) a.bstart.now a.bstop.now (h.1 ∙ s.count) h.2 h.3))
+    let s = gaps_stand a.parting a.base (spans a.starts.now a.stops.now) at-enum-told5.enum-told5.given.1 in
+    (h.0, (fits_front (gaps a.base (spans a.starts.now a.stops.now)) a.bstart.now a.bstop.now (h.1 ∙ s.count) h.2 h.3))
 
 same_length : tie.Need-same-length
 same_length c = c.before.before.before.bstart.given
@@ -72,7 +72,7 @@ returns c =
     let at-args = at-enum-told.before.before.before.before.before.before in
     let a = at-args.args in
     let h = at-args.requires in
-    fronts-alike 0 0 h.1 (same-bare partStart a.parting a.base (spans a.starts.now a.stops.now) at-enum-told.enum_told.given.1) (same-bare partStop a.parting a.base (spans a.starts.now a.stops.now) at-enum-told.enum_told.given.1) at-fill-both.fill-both.ensures
+    fronts_alike 0 0 h.1 (same_bare part_start a.parting a.base (spans a.starts.now a.stops.now) at-enum-told.enum_told.given.1) (same_bare part_stop a.parting a.base (spans a.starts.now a.stops.now) at-enum-told.enum_told.given.1) at-fill-both.fill-both.ensures
 
 same-length-3 : tie.Need-same-length-3
 same-length-3 c = c.before.before.before.bstart2.given
@@ -87,7 +87,7 @@ returns-2 c =
     let at-args = at-enum-told2.before.before.before.before.before.before in
     let a = at-args.args in
     let h = at-args.requires in
-    fronts-alike a.base.start a.base.stop h.1 (same-single partStart a.parting a.base (spans a.starts.now a.stops.now) at-enum-told2.enum-told2.given.1) (same-single partStop a.parting a.base (spans a.starts.now a.stops.now) at-enum-told2.enum-told2.given.1) at-fill-both2.fill-both2.ensures
+    fronts_alike a.base.start a.base.stop h.1 (same_single part_start a.parting a.base (spans a.starts.now a.stops.now) at-enum-told2.enum-told2.given.1) (same_single part_stop a.parting a.base (spans a.starts.now a.stops.now) at-enum-told2.enum-told2.given.1) at-fill-both2.fill-both2.ensures
 
 same-length-5 : tie.Need-same-length-5
 same-length-5 c = c.before.before.before.bstart3.given
@@ -102,7 +102,7 @@ returns-3 c =
     let at-args = at-enum-told3.before.before.before.before.before.before in
     let a = at-args.args in
     let h = at-args.requires in
-    fronts-alike a.base.start a.base.stop h.1 (same-records partStart a.parting a.base (spans a.starts.now a.stops.now) at-enum-told3.enum-told3.given.1) (same-records partStop a.parting a.base (spans a.starts.now a.stops.now) at-enum-told3.enum-told3.given.1) at-fill-both3.fill-both3.ensures
+    fronts_alike a.base.start a.base.stop h.1 (same_records part_start a.parting a.base (spans a.starts.now a.stops.now) at-enum-told3.enum-told3.given.1) (same_records part_stop a.parting a.base (spans a.starts.now a.stops.now) at-enum-told3.enum-told3.given.1) at-fill-both3.fill-both3.ensures
 
 same-length-7 : tie.Need-same-length-7
 same-length-7 c = c.before.before.before.bstart4.given
@@ -117,8 +117,8 @@ returns-4 c =
     let at-args = at-enum-told4.before.before.before.before.before.before in
     let a = at-args.args in
     let h = at-args.requires in
-    let s = clips-stand a.parting a.base (spans a.starts.now a.stops.now) at-enum-told4.enum-told4.given.1 in
-    fronts-as s.starts s.stops (fronts at-put-all.put_all_lem.ensures (fits-front (allGiven Clip a.base (spans a.starts.now a.stops.now)) a.bstart.now a.bstop.now (h.1 ∙ s.count) h.2 h.3))
+    let s = clips_stand a.parting a.base (spans a.starts.now a.stops.now) at-enum-told4.enum-told4.given.1 in
+    fronts_as s.starts s.stops (fronts at-put-all.put_all_lem.ensures (fits_front (all_given Clip a.base (spans a.starts.now a.stops.now)) a.bstart.now a.bstop.now (h.1 ∙ s.count) h.2 h.3))
 
 same-length-9 : tie.Need-same-length-9
 same-length-9 c = c.before.before.before.bstart5.given
@@ -133,8 +133,8 @@ returns-5 c =
     let at-args = at-enum-told5.before.before.before.before.before.before in
     let a = at-args.args in
     let h = at-args.requires in
-    let s = gaps-stand a.parting a.base (spans a.starts.now a.stops.now) at-enum-told5.enum-told5.given.1 in
-    fronts-as s.starts s.stops (fronts at-put-gaps.put-gaps.ensures (fits-front (gaps a.base (spans a.starts.now a.stops.now)) a.bstart.now a.bstop.now (h.1 ∙ s.count) h.2 h.3))
+    let s = gaps_stand a.parting a.base (spans a.starts.now a.stops.now) at-enum-told5.enum-told5.given.1 in
+    fronts_as s.starts s.stops (fronts at-put-gaps.put-gaps.ensures (fits_front (gaps a.base (spans a.starts.now a.stops.now)) a.bstart.now a.bstop.now (h.1 ∙ s.count) h.2 h.3))
 
 pub lay-parts-spec : {M : Type 1} → statement M
 lay-parts-spec =

@@ -1,7 +1,7 @@
 -- `fragment_columns::lay_pieces` meets its contract: the pieces of all records, or none where there is no fragment. Assumes nothing.
-use Rattle.layouts.proofs.Bases.{pieces_none, pieces-all}
-use Rattle.span_columns.proofs.Writing.{fits-front, fronts}
-use Rattle.layouts.specs.Given.{bases, allGiven}
+use Rattle.layouts.proofs.Bases.{pieces_none, pieces_all}
+use Rattle.span_columns.proofs.Writing.{fits_front, fronts}
+use Rattle.layouts.specs.Given.{bases, all_given}
 use Rattle.spans.specs.Spans.{spans}
 use lib.ListN.{length}
 use mathlib.Core.Path.{refl, sym, ap, ◌∙◌}
@@ -13,7 +13,7 @@ returns c =
     let at-args = c.before.before.before.before.before in
     let a = at-args.args in
     let h = at-args.requires in
-    rw (pieces_none (bases a.rule.0 a.base (spans a.starts.now a.stops.now)) (allGiven a.rule.1 a.base (spans a.starts.now a.stops.now)) (sym h.1 ∙ c.if1.true)) (record { starts-are = refl; stops-are = refl })
+    rw (pieces_none (bases a.rule.0 a.base (spans a.starts.now a.stops.now)) (all_given a.rule.1 a.base (spans a.starts.now a.stops.now)) (sym h.1 ∙ c.if1.true)) (record { starts_are = refl; stops_are = refl })
 
 put-all-requires : tie.Need-put-all-requires
 put-all-requires c κs =
@@ -21,8 +21,8 @@ put-all-requires c κs =
     let at-args = at-if1.before.before.before.before.before in
     let a = at-args.args in
     let h = at-args.requires in
-    let e = pieces-all (bases a.rule.0 a.base (spans a.starts.now a.stops.now)) (allGiven a.rule.1 a.base (spans a.starts.now a.stops.now)) (λ z. at-if1.if1.false (h.1 ∙ z)) in
-    (h.0, fits-front (allGiven a.rule.1 a.base (spans a.starts.now a.stops.now)) a.pstart.now a.pstop.now (ap length e) h.2 h.3)
+    let e = pieces_all (bases a.rule.0 a.base (spans a.starts.now a.stops.now)) (all_given a.rule.1 a.base (spans a.starts.now a.stops.now)) (λ z. at-if1.if1.false (h.1 ∙ z)) in
+    (h.0, fits_front (all_given a.rule.1 a.base (spans a.starts.now a.stops.now)) a.pstart.now a.pstop.now (ap length e) h.2 h.3)
 
 same_length : tie.Need-same-length
 same_length c = c.before.before.before.pstart.given
@@ -37,8 +37,8 @@ returns-2 c =
     let at-args = at-if1.before.before.before.before.before in
     let a = at-args.args in
     let h = at-args.requires in
-    let e = pieces-all (bases a.rule.0 a.base (spans a.starts.now a.stops.now)) (allGiven a.rule.1 a.base (spans a.starts.now a.stops.now)) (λ z. at-if1.if1.false (h.1 ∙ z)) in
-    rw e (fronts at-put-all.put_all_lem.ensures (fits-front (allGiven a.rule.1 a.base (spans a.starts.now a.stops.now)) a.pstart.now a.pstop.now (ap length e) h.2 h.3))
+    let e = pieces_all (bases a.rule.0 a.base (spans a.starts.now a.stops.now)) (all_given a.rule.1 a.base (spans a.starts.now a.stops.now)) (λ z. at-if1.if1.false (h.1 ∙ z)) in
+    rw e (fronts at-put-all.put_all_lem.ensures (fits_front (all_given a.rule.1 a.base (spans a.starts.now a.stops.now)) a.pstart.now a.pstop.now (ap length e) h.2 h.3))
 
 pub lay-pieces-spec : {M : Type 1} → statement M
 lay-pieces-spec = tie.close (tie.spec returns put-all-requires same_length same-length-2 returns-2)

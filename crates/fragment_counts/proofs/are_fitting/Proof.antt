@@ -1,8 +1,8 @@
 -- `fragment_counts::are_fitting` meets its contract: the records from row i on fit behind the one ahead exactly if all do. Assumes nothing.
 use borrow.Author.Tests.{not-true, not-false}
 use Rattle.layouts.proofs.Rows.{rows_from}
-use Rattle.layouts.proofs.Rows.{fitting-at, fitting-end}
-use Rattle.layouts.specs.Judged.{allFitting}
+use Rattle.layouts.proofs.Rows.{fitting_at, fitting_end}
+use Rattle.layouts.specs.Judged.{all_fitting}
 use Rattle.spans.specs.Spans.{spans}
 use lib.ListN.{length}
 use mathlib.Core.Path.{◌≡◌, refl, sym, ◌∙◌}
@@ -13,7 +13,7 @@ use Rattle.fragment_counts.proofs.are_fitting.Tie as tie
 
 abbrev invariant-loop : tie.invariant-loop
 invariant-loop base starts stops ahead₀ i₀ ahead i =
-    (i ≤ length starts) × (allFitting base ahead (rows_from starts stops i) ≡ allFitting base 0 (spans starts stops))
+    (i ≤ length starts) × (all_fitting base ahead (rows_from starts stops i) ≡ all_fitting base 0 (spans starts stops))
 
 abbrev decreases-loop : tie.decreases-loop
 decreases-loop base starts stops ahead₀ i₀ ahead i = length starts - i
@@ -44,7 +44,7 @@ returns c =
     let at-args = at-loop.before.before.before in
     let a = at-args.args in
     let l = at-loop.loop in
-    sym (sym l.invariant.1 ∙ (fitting-at a.starts.now a.stops.now l.i at-args.requires at-loop-test.loop-test.true a.base l.ahead) ∙ rw (sym at-is-fitting.is-fitting.ensures ∙ not-true _ c.if1.true))
+    sym (sym l.invariant.1 ∙ (fitting_at a.starts.now a.stops.now l.i at-args.requires at-loop-test.loop-test.true a.base l.ahead) ∙ rw (sym at-is-fitting.is-fitting.ensures ∙ not-true _ c.if1.true))
 
 add-i : tie.Need-overflow-add-i invariant-loop decreases-loop
 add-i c = search rules
@@ -60,13 +60,13 @@ loop-again c =
     let at-args = at-loop.before.before.before in
     let a = at-args.args in
     let l = at-loop.loop in
-    (search rules, sym (rw (sym at-is-fitting.is-fitting.ensures ∙ not-false _ c.if1.false) at (fitting-at a.starts.now a.stops.now l.i at-args.requires at-loop-test.loop-test.true a.base l.ahead)) ∙ l.invariant.1)
+    (search rules, sym (rw (sym at-is-fitting.is-fitting.ensures ∙ not-false _ c.if1.false) at (fitting_at a.starts.now a.stops.now l.i at-args.requires at-loop-test.loop-test.true a.base l.ahead)) ∙ l.invariant.1)
 
 returns-2 : tie.Need-returns-2 invariant-loop decreases-loop
 returns-2 c =
     let a = c.before.before.before.before.args in
     let l = c.before.loop in
-    sym (sym l.invariant.1 ∙ fitting-end a.starts.now a.stops.now l.i c.before.before.before.before.requires c.loop-test.false a.base l.ahead)
+    sym (sym l.invariant.1 ∙ fitting_end a.starts.now a.stops.now l.i c.before.before.before.before.requires c.loop-test.false a.base l.ahead)
 
 pub are-fitting-spec : {M : Type 1} → statement M
 are-fitting-spec =

@@ -1,7 +1,7 @@
 -- `fragment_counts::count_gaps` meets its contract: the gaps counted and those of the walk from here on are all gaps. Assumes nothing.
 use Rattle.layouts.proofs.Rows.{row, rows_from, walk_at, walk_end}
 use Rattle.layouts.specs.Fragments.{walk}
-use Rattle.spans.specs.Turn.{gapEnd, nextPlace}
+use Rattle.spans.specs.Turn.{gap_end, next_place}
 use Rattle.spans.specs.Spans.{spans, stretch}
 use lib.ListN.{length-append}
 use mathlib.Core.List.{[]}
@@ -69,7 +69,7 @@ loop-again c =
         l.invariant.2,
         rw at-gap-end.gap-end.ensures at at-stretch-count.stretch-count.ensures.0,
         ap length (walk_at a.starts.now a.stops.now l.i at-args.requires at-loop-test.loop-test.true l.place a.base.stop),
-        length-append (stretch l.place (gapEnd l.place (row a.starts.now a.stops.now l.i))) (walk (nextPlace l.place (row a.starts.now a.stops.now l.i)) a.base.stop (rows_from a.starts.now a.stops.now (l.i + 1))),
+        length-append (stretch l.place (gap_end l.place (row a.starts.now a.stops.now l.i))) (walk (next_place l.place (row a.starts.now a.stops.now l.i)) a.base.stop (rows_from a.starts.now a.stops.now (l.i + 1))),
       )),
     )
 

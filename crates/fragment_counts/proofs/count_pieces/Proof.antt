@@ -1,6 +1,6 @@
 -- `fragment_counts::count_pieces` meets its contract: the pieces counted and those of the records from row i on are all pieces. Assumes nothing.
-use Rattle.layouts.proofs.Rows.{row, rows_from, given-at, given-end}
-use Rattle.layouts.specs.Given.{given, allGiven}
+use Rattle.layouts.proofs.Rows.{row, rows_from, given_at, given_end}
+use Rattle.layouts.specs.Given.{given, all_given}
 use Rattle.spans.specs.Spans.{spans}
 use lib.ListN.{length-append}
 use lib.ListN.{length}
@@ -13,7 +13,7 @@ use Rattle.fragment_counts.proofs.count_pieces.Tie as tie
 
 abbrev invariant-loop : tie.invariant-loop
 invariant-loop giving base starts stops n₀ i₀ n i =
-    (i ≤ length starts) × (n ≤ i + i) × (n + length (allGiven giving base (rows_from starts stops i)) ≡ length (allGiven giving base (spans starts stops)))
+    (i ≤ length starts) × (n ≤ i + i) × (n + length (all_given giving base (rows_from starts stops i)) ≡ length (all_given giving base (spans starts stops)))
 
 abbrev decreases-loop : tie.decreases-loop
 decreases-loop giving base starts stops n₀ i₀ n i = length starts - i
@@ -58,8 +58,8 @@ loop-again c =
         arith,
         l.invariant.2,
         c.piece-count.ensures.0,
-        ap length (given-at a.starts.now a.stops.now l.i at-args.requires at-loop-test.loop-test.true a.giving a.base),
-        length-append (given a.giving a.base (row a.starts.now a.stops.now l.i)) (allGiven a.giving a.base (rows_from a.starts.now a.stops.now (l.i + 1))),
+        ap length (given_at a.starts.now a.stops.now l.i at-args.requires at-loop-test.loop-test.true a.giving a.base),
+        length-append (given a.giving a.base (row a.starts.now a.stops.now l.i)) (all_given a.giving a.base (rows_from a.starts.now a.stops.now (l.i + 1))),
       ),
     )
 
@@ -67,7 +67,7 @@ returns : tie.Need-returns invariant-loop decreases-loop
 returns c =
     let a = c.before.before.before.before.args in
     let l = c.before.loop in
-    omega (arith, l.invariant.2, ap length (given-end a.starts.now a.stops.now l.i c.before.before.before.before.requires c.loop-test.false a.giving a.base))
+    omega (arith, l.invariant.2, ap length (given_end a.starts.now a.stops.now l.i c.before.before.before.before.requires c.loop-test.false a.giving a.base))
 
 pub count-pieces-spec : {M : Type 1} → statement M
 count-pieces-spec =

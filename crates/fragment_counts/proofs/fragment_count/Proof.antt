@@ -1,6 +1,6 @@
 -- `fragment_counts::fragment_count` meets its contract: a case for each way to part. Assumes nothing.
-use Rattle.layouts.proofs.Bases.{count-bare, count-single, count_none, count-records, count-clips, count-gaps}
-use Rattle.spans.proofs.Columns.{length-spans}
+use Rattle.layouts.proofs.Bases.{count_bare, count_single, count_none, count_records, count_clips, count_gaps}
+use Rattle.spans.proofs.Columns.{length_spans}
 use Rattle.spans.specs.Spans.{spans}
 use native.Mathlib.Omega.{arith}
 use mathlib.Core.Path.{sym, ◌∙◌}
@@ -21,7 +21,7 @@ returns : tie.Need-returns
 returns c =
     let at-enum-told3 = c.before in
     let at-args = at-enum-told3.before.before.before.before in
-    rw at-enum-told3.enum-told3.given.1 (count_none at-args.args.base (spans at-args.args.starts.now at-args.args.stops.now) (omega (arith, length-spans at-args.args.starts.now at-args.args.stops.now at-args.requires)))
+    rw at-enum-told3.enum-told3.given.1 (count_none at-args.args.base (spans at-args.args.starts.now at-args.args.stops.now) (omega (arith, length_spans at-args.args.starts.now at-args.args.stops.now at-args.requires)))
 
 enum-told-4 : tie.Need-enum-told-4
 enum-told-4 c = search rules
@@ -35,29 +35,29 @@ count-gaps-requires c κs = c.before.before.before.before.requires
 returns-2 : tie.Need-returns-2
 returns-2 c =
     let at-args = c.before.before.before.before in
-    rw c.enum_told.given.1 (count-bare at-args.args.base (spans at-args.args.starts.now at-args.args.stops.now))
+    rw c.enum_told.given.1 (count_bare at-args.args.base (spans at-args.args.starts.now at-args.args.stops.now))
 
 returns-3 : tie.Need-returns-3
 returns-3 c =
     let at-args = c.before.before.before.before in
-    rw c.enum-told2.given.1 (count-single at-args.args.base (spans at-args.args.starts.now at-args.args.stops.now))
+    rw c.enum-told2.given.1 (count_single at-args.args.base (spans at-args.args.starts.now at-args.args.stops.now))
 
 returns-4 : tie.Need-returns-4
 returns-4 c =
     let at-enum-told3 = c.before in
     let at-args = at-enum-told3.before.before.before.before in
-    rw at-enum-told3.enum-told3.given.1 (sym (length-spans at-args.args.starts.now at-args.args.stops.now at-args.requires) ∙ count-records at-args.args.base (spans at-args.args.starts.now at-args.args.stops.now) (λ h. c.if1.false (sym (length-spans at-args.args.starts.now at-args.args.stops.now at-args.requires) ∙ h)))
+    rw at-enum-told3.enum-told3.given.1 (sym (length_spans at-args.args.starts.now at-args.args.stops.now at-args.requires) ∙ count_records at-args.args.base (spans at-args.args.starts.now at-args.args.stops.now) (λ h. c.if1.false (sym (length_spans at-args.args.starts.now at-args.args.stops.now at-args.requires) ∙ h)))
 
 returns-5 : tie.Need-returns-5
 returns-5 c =
     let at-args = c.before.before.before.before in
-    rw c.enum-told4.given.1 (sym (length-spans at-args.args.starts.now at-args.args.stops.now at-args.requires) ∙ count-clips at-args.args.base (spans at-args.args.starts.now at-args.args.stops.now))
+    rw c.enum-told4.given.1 (sym (length_spans at-args.args.starts.now at-args.args.stops.now at-args.requires) ∙ count_clips at-args.args.base (spans at-args.args.starts.now at-args.args.stops.now))
 
 returns-6 : tie.Need-returns-6
 returns-6 c =
     let at-enum-told5 = c.before in
     let at-args = at-enum-told5.before.before.before.before in
-    rw at-enum-told5.enum-told5.given.1 (c.count-gaps.ensures ∙ count-gaps at-args.args.base (spans at-args.args.starts.now at-args.args.stops.now))
+    rw at-enum-told5.enum-told5.given.1 (c.count-gaps.ensures ∙ count_gaps at-args.args.base (spans at-args.args.starts.now at-args.args.stops.now))
 
 pub fragment-count-spec : {M : Type 1} → statement M
 fragment-count-spec =

@@ -7,10 +7,10 @@ use borrow.Author.Rules.{rules}
 use Rattle.rules.specs.Rows.{fault}
 use Rattle.heads.specs.declared.Check.{Check}
 use Rattle.heads.specs.declared.Check.TheVariants as check
-use Rattle.heads.specs.View.{Cols, Heads, cols, headsBy}
-use Rattle.heads.specs.Move.{nextRecord, checkOf}
+use Rattle.heads.specs.View.{Cols, Heads, cols, heads_by}
+use Rattle.heads.specs.Move.{next_record, check_of}
 use Rattle.heads.specs.Load.{BeginsAs}
-use Rattle.heads.proofs.LoadLaws.{begun-ends, begun-wrong, begun-goes}
+use Rattle.heads.proofs.LoadLaws.{begun_ends, begun_wrong, begun_goes}
 use Rattle.heads.proofs.begin.Statement.{statement}
 use Rattle.heads.proofs.begin.Tie as tie
 
@@ -18,7 +18,7 @@ abbrev sc : tie.Start → Cols
 sc c = cols c.args.chrom.now c.args.start.now c.args.stop.now
 
 abbrev hd : tie.Start → Heads
-hd c = headsBy c.args.fours.now c.args.ended.now c.args.next.now c.args.from.now c.args.to.now c.args.streams
+hd c = heads_by c.args.fours.now c.args.ended.now c.args.next.now c.args.from.now c.args.to.now c.args.streams
 
 abbrev Begins : tie.Start → Heads → Type 0
 Begins c g = BeginsAs (sc c) c.args.n (hd c) c.args.k check.Fine g
@@ -48,7 +48,7 @@ returns : tie.Need-returns
 returns c =
     let at-if1 = c.before.before.before.before in
     let at-args = at-if1.before.before.before.before.before.before.before in
-    subst (Begins (at-args)) (sym (c.go_on.ensures at-args.args.from.now at-args.args.to.now at-args.args.streams)) (begun-ends (sc (at-args)) at-args.args.n (hd (at-args)) at-args.args.k at-if1.if1.true)
+    subst (Begins (at-args)) (sym (c.go_on.ensures at-args.args.from.now at-args.args.to.now at-args.args.streams)) (begun_ends (sc (at-args)) at-args.args.n (hd (at-args)) at-args.args.k at-if1.if1.true)
 
 read-row-requires : tie.Need-read-row-requires
 read-row-requires c κs =
@@ -72,7 +72,7 @@ returns-2 c =
     let at-read-row = at-number.before in
     let at-if1 = at-read-row.before in
     let at-args = at-if1.before.before.before.before.before.before.before in
-    begun-wrong (sc (at-args)) at-args.args.n (hd (at-args)) at-args.args.k at-if1.if1.false at-read-row.read-row.result at-check-first.check-first.result at-read-row.read-row.ensures (at-check-first.check-first.ensures ∙ rw at-number.number.ensures) _ at-w.w.given.1
+    begun_wrong (sc (at-args)) at-args.args.n (hd (at-args)) at-args.args.k at-if1.if1.false at-read-row.read-row.result at-check-first.check-first.result at-read-row.read-row.ensures (at-check-first.check-first.ensures ∙ rw at-number.number.ensures) _ at-w.w.given.1
 
 enum_told : tie.Need-enum-told
 enum_told c = search rules
@@ -88,7 +88,7 @@ returns-3 c =
     let at-read-row = at-number.before in
     let at-if1 = at-read-row.before in
     let at-args = at-if1.before.before.before.before.before.before.before in
-    subst (Begins (at-args)) (sym (c.go-on2.ensures at-args.args.from.now at-args.args.to.now at-args.args.streams)) (begun-goes (sc (at-args)) at-args.args.n (hd (at-args)) at-args.args.k at-if1.if1.false at-read-row.read-row.result at-check-first.check-first.result at-read-row.read-row.ensures (at-check-first.check-first.ensures ∙ rw at-number.number.ensures) at-enum-told.enum_told.given.1)
+    subst (Begins (at-args)) (sym (c.go-on2.ensures at-args.args.from.now at-args.args.to.now at-args.args.streams)) (begun_goes (sc (at-args)) at-args.args.n (hd (at-args)) at-args.args.k at-if1.if1.false at-read-row.read-row.result at-check-first.check-first.result at-read-row.read-row.ensures (at-check-first.check-first.ensures ∙ rw at-number.number.ensures) at-enum-told.enum_told.given.1)
 
 pub begin-spec : {M : Type 1} → statement M
 begin-spec =

@@ -1,6 +1,6 @@
 -- `decide` meets its contract: no head, or one that stays; else the row behind it decides.
 use borrow.Author.Tests.{not-true, not-false}
-use Rattle.heads.proofs.MoveLaws.{decided-ends, decided-follows}
+use Rattle.heads.proofs.MoveLaws.{decided_ends, decided_follows}
 use mathlib.Core.Path.{◌≡◌, sym, ap, ◌∙◌}
 use mathlib.Core.List.{List}
 use Prim.Native.Nat.{ℕ, ◌<◌, ◌≤◌, ◌+◌}
@@ -13,10 +13,10 @@ use Rattle.rules.specs.Streams.{ahead}
 use Rattle.basics.specs.Build.{build}
 use Rattle.least.specs.Fours.{left_at}
 use Rattle.heads.specs.declared.Move.{Move}
-use Rattle.heads.specs.View.{Cols, cols, headsBy}
-use Rattle.heads.specs.Move.{bestRecord, taken_of, move_of, turn_of, behindBy}
+use Rattle.heads.specs.View.{Cols, cols, heads_by}
+use Rattle.heads.specs.Move.{best_record, taken_of, move_of, turn_of, behind_by}
 use Rattle.heads.proofs.Fours.{turned}
-use Rattle.heads.proofs.MoveLaws.{Chosen, chosen, stays-none, stays-untaken}
+use Rattle.heads.proofs.MoveLaws.{Chosen, chosen, stays_none, stays_untaken}
 use borrow.Author.Rules.{rules}
 use Rattle.heads.proofs.decide.Statement.{statement}
 use Rattle.heads.proofs.decide.Tie as tie
@@ -26,11 +26,11 @@ sc c = cols c.args.chrom.now c.args.start.now c.args.stop.now
 
 -- the rows behind the heads
 abbrev after : tie.Start → ℕ → List Record
-after c = behindBy (sc c) c.args.next.now c.args.from.now c.args.to.now
+after c = behind_by (sc c) c.args.next.now c.args.from.now c.args.to.now
 
 -- a turn over the arrays as the turn of the heads
 abbrev Turns : tie.Start → Move → Type 0
-Turns c m = m ≡ turn_of (sc c) c.args.n c.args.b (headsBy c.args.fours.now c.args.ended.now c.args.next.now c.args.from.now c.args.to.now c.args.streams)
+Turns c m = m ≡ turn_of (sc c) c.args.n c.args.b (heads_by c.args.fours.now c.args.ended.now c.args.next.now c.args.from.now c.args.to.now c.args.streams)
 
 shows : (c : tie.Start) (m : Move) → m ≡ move_of c.args.n c.args.b c.args.next.now (pick ahead (build (left_at c.args.fours.now c.args.ended.now (after c)) c.args.streams 0)) → Turns c m
 shows c m e = turned (sc c) c.args.fours.now c.args.ended.now c.args.next.now c.args.from.now c.args.to.now c.args.streams m c.args.n c.args.b e
@@ -63,7 +63,7 @@ returns : tie.Need-returns
 returns c =
     let at_least_lem = c.before.before.before in
     let at-args = at_least_lem.before.before.before.before in
-    shows at-args _ (sym (stays-none at-args.args.fours.now at-args.args.ended.now (after (at-args)) at-args.args.streams (at-args).requires.few at-args.args.n at-args.args.b at-args.args.next.now at_least_lem.least.result at_least_lem.least.ensures c.if1.true))
+    shows at-args _ (sym (stays_none at-args.args.fours.now at-args.args.ended.now (after (at-args)) at-args.args.streams (at-args).requires.few at-args.args.n at-args.args.b at-args.args.next.now at_least_lem.least.result at_least_lem.least.ensures c.if1.true))
 
 is-taken-requires : tie.Need-is-taken-requires
 is-taken-requires c κs = search rules
@@ -74,7 +74,7 @@ returns-2 c =
     let at-then = at-is-taken.before in
     let at_least_lem = at-then.before.before.before in
     let at-args = at_least_lem.before.before.before.before in
-    shows at-args _ (sym (stays-untaken at-args.args.fours.now at-args.args.ended.now (after (at-args)) at-args.args.streams (at-args).requires.few at-args.args.n at-args.args.b at-args.args.next.now at_least_lem.least.result (choice (at-then)) (sym at-is-taken.is-taken.ensures ∙ not-true _ c.if2.true)))
+    shows at-args _ (sym (stays_untaken at-args.args.fours.now at-args.args.ended.now (after (at-args)) at-args.args.streams (at-args).requires.few at-args.args.n at-args.args.b at-args.args.next.now at_least_lem.least.result (choice (at-then)) (sym at-is-taken.is-taken.ensures ∙ not-true _ c.if2.true)))
 
 is-live-requires : tie.Need-is-live-requires
 is-live-requires c κs = search rules
@@ -103,7 +103,7 @@ returns-3 c =
     let at-then = at-is-taken.before in
     let at_least_lem = at-then.before.before.before in
     let at-args = at_least_lem.before.before.before.before in
-    shows at-args _ (decided-ends at-args.args.fours.now at-args.args.ended.now (sc (at-args)) at-args.args.next.now at-args.args.from.now at-args.args.to.now at-args.args.streams (at-args).requires.few at-args.args.n at-args.args.b at_least_lem.least.result (choice (at-then)) at-is-live.is_live.result at-is-live.is_live.ensures (sym at-is-taken.is-taken.ensures ∙ not-false _ at-if2.if2.false) at-place-in.IsPlace-in.result at-place-in.IsPlace-in.ensures c.if3.true)
+    shows at-args _ (decided_ends at-args.args.fours.now at-args.args.ended.now (sc (at-args)) at-args.args.next.now at-args.args.from.now at-args.args.to.now at-args.args.streams (at-args).requires.few at-args.args.n at-args.args.b at_least_lem.least.result (choice (at-then)) at-is-live.is_live.result at-is-live.is_live.ensures (sym at-is-taken.is-taken.ensures ∙ not-false _ at-if2.if2.false) at-place-in.IsPlace-in.result at-place-in.IsPlace-in.ensures c.if3.true)
 
 mul-first : tie.Need-overflow-mul-first
 mul-first c = omega (arith, below c.before.before.before)
@@ -128,7 +128,7 @@ returns-4 c =
     let at-then = at-is-taken.before in
     let at_least_lem = at-then.before.before.before in
     let at-args = at_least_lem.before.before.before.before in
-    shows at-args _ (decided-follows at-args.args.fours.now at-args.args.ended.now (sc (at-args)) at-args.args.next.now at-args.args.from.now at-args.args.to.now at-args.args.streams (at-args).requires.few at-args.args.n at-args.args.b at_least_lem.least.result (choice (at-then)) at-is-live.is_live.result at-is-live.is_live.ensures (sym at-is-taken.is-taken.ensures ∙ not-false _ at-if2.if2.false) at-place-in.IsPlace-in.result at-place-in.IsPlace-in.ensures c.follow.result at-if3.if3.false c.follow.ensures)
+    shows at-args _ (decided_follows at-args.args.fours.now at-args.args.ended.now (sc (at-args)) at-args.args.next.now at-args.args.from.now at-args.args.to.now at-args.args.streams (at-args).requires.few at-args.args.n at-args.args.b at_least_lem.least.result (choice (at-then)) at-is-live.is_live.result at-is-live.is_live.ensures (sym at-is-taken.is-taken.ensures ∙ not-false _ at-if2.if2.false) at-place-in.IsPlace-in.result at-place-in.IsPlace-in.ensures c.follow.result at-if3.if3.false c.follow.ensures)
 
 pub decide-spec : {M : Type 1} → statement M
 decide-spec =

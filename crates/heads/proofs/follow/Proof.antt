@@ -1,5 +1,5 @@
 -- `follow` meets its contract: what is wrong with the row that was read, or the row.
-use Rattle.heads.proofs.MoveLaws.{followed-wrong, followed-fine}
+use Rattle.heads.proofs.MoveLaws.{followed_wrong, followed_fine}
 use mathlib.Core.Path.{◌≡◌, sym, ap, ◌∙◌}
 use mathlib.Core.Option.{Option, none, some}
 use Rattle.rules.specs.declared.End.{End}
@@ -7,7 +7,7 @@ use Prim.Native.Nat.{◌+◌}
 use Rattle.rules.specs.Rows.{Record, fault}
 use Rattle.heads.specs.declared.Check.{Check}
 use Rattle.heads.specs.View.{cols, row_at}
-use Rattle.heads.specs.Move.{bestRecord, nextRecord, checkOf}
+use Rattle.heads.specs.Move.{best_record, next_record, check_of}
 use borrow.Author.Rules.{rules}
 use Rattle.heads.proofs.follow.Statement.{statement}
 use Rattle.heads.proofs.follow.Tie as tie
@@ -21,9 +21,9 @@ abbrev rowHere : tie.Start → Record
 rowHere c = row_at (cols c.args.chrom.now c.args.start.now c.args.stop.now) c.args.first c.args.h.stream.0 c.args.at
 
 abbrev wrongHere : tie.Start → Option End
-wrongHere c = fault c.args.n (some (bestRecord c.args.h).it) (rowHere c)
+wrongHere c = fault c.args.n (some (best_record c.args.h).it) (rowHere c)
 
-seen : (c : tie.After-check-behind) → c.check-behind.result ≡ checkOf (wrongHere c.before.before.before.before.before)
+seen : (c : tie.After-check-behind) → c.check-behind.result ≡ check_of (wrongHere c.before.before.before.before.before)
 seen c = c.check-behind.ensures ∙ rw c.before.read-row.ensures
 
 read-row-requires : tie.Need-read-row-requires
@@ -43,14 +43,14 @@ returns c =
     let at-w = c.before in
     let at-then = at-w.before.before in
     let at-args = at-then.before.before.before.before.before in
-    followed-wrong at-args.args.t (at-args.args.at + 1) (wrongHere (at-args)) (rowHere (at-args)) (seen (at-then)) at-w.w.given.1
+    followed_wrong at-args.args.t (at-args.args.at + 1) (wrongHere (at-args)) (rowHere (at-args)) (seen (at-then)) at-w.w.given.1
 
 returns-2 : tie.Need-returns-2
 returns-2 c =
     let at-then = c.before.before in
     let at-read-row = at-then.before in
     let at-args = at-read-row.before.before.before.before in
-    followed-fine at-args.args.t (at-args.args.at + 1) (wrongHere (at-args)) (rowHere (at-args)) (seen (at-then)) c.enum_told.given.1 at-read-row.read-row.ensures
+    followed_fine at-args.args.t (at-args.args.at + 1) (wrongHere (at-args)) (rowHere (at-args)) (seen (at-then)) c.enum_told.given.1 at-read-row.read-row.ensures
 
 pub follow-spec : {M : Type 1} → statement M
 follow-spec =

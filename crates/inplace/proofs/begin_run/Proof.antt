@@ -1,7 +1,7 @@
 -- `begin_run` meets its contract.
 use borrow.Author.Rules.{rules}
 use Rattle.heads.specs.View.{cols}
-use Rattle.inplace.proofs.CallLaws.{begins-so}
+use Rattle.inplace.proofs.CallLaws.{begins_so}
 use Rattle.inplace.proofs.begin_run.Statement.{statement}
 use Rattle.inplace.proofs.begin_run.Tie as tie
 
@@ -27,7 +27,7 @@ returns c =
     let at-eight-of = at-eight-of2.before in
     let at-streams-in = at-eight-of.before in
     let at-args = at-streams-in.before.before.before.before.before.before.before.before.before in
-    begins-so at-args.args.settings at-args.args.from.now at-args.args.to.now at-args.args.text.now at-args.args.names-from.now at-args.args.names-to.now (cols at-args.args.chrom.now at-args.args.start.now at-args.args.stop.now) at-start.start.ensures at-streams-in.streams-in.ensures at-eight-of.eight-of.ensures at-eight-of2.eight-of2.ensures c.begun-number.ensures
+    begins_so at-args.args.settings at-args.args.from.now at-args.args.to.now at-args.args.text.now at-args.args.names_from.now at-args.args.names_to.now (cols at-args.args.chrom.now at-args.args.start.now at-args.args.stop.now) at-start.start.ensures at-streams-in.streams-in.ensures at-eight-of.eight-of.ensures at-eight-of2.eight-of2.ensures c.begun-number.ensures
 
 pub begin-run-spec : {M : Type 1} → statement M
 begin-run-spec =

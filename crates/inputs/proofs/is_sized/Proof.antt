@@ -1,6 +1,6 @@
 -- `inputs::is_sized` meets its contract. Assumes nothing.
 use native.Mathlib.Omega.{arith}
-use Rattle.inputs.proofs.Parting.{sized-by}
+use Rattle.inputs.proofs.Parting.{sized_by_lem}
 use Rattle.inputs.proofs.is_sized.Statement.{statement}
 use Rattle.inputs.proofs.is_sized.Tie as tie
 use Rattle.inputs.proofs.is_sized.Reads as reads
@@ -14,7 +14,7 @@ parts-all-requires : tie.Need-parts-all-requires
 parts-all-requires c κs = tt
 
 returns : tie.Need-returns
-returns c = sized-by _ _ c.parts_all.ensures
+returns c = sized_by_lem _ _ c.parts_all.ensures
 
 pub is-sized-spec : {M : Type 1} → statement M
 is-sized-spec = tie.close (tie.spec add-few parts-all-requires returns)

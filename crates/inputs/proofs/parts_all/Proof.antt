@@ -1,6 +1,6 @@
 -- `inputs::parts_all` meets its contract: what is left of the ends decides. Assumes nothing.
 use borrow.Author.Rules.{rules}
-use Rattle.inputs.proofs.Parting.{Parting, parting-start, parting-falls, parting-next, parting-end}
+use Rattle.inputs.proofs.Parting.{Parting, parting_start, parting_falls, parting_next, parting_end}
 use lib.ListN.{length}
 use native.Mathlib.Omega.{arith}
 use mathlib.Core.Path.{sym}
@@ -17,7 +17,7 @@ abbrev decreases-loop : tie.decreases-loop
 decreases-loop n ends at₀ k₀ at k = length ends - k
 
 loop-holds : tie.Need-loop-init invariant-loop decreases-loop
-loop-holds c = parting-start _ _
+loop-holds c = parting_start _ _
 
 mul-e : tie.Need-overflow-mul-e invariant-loop decreases-loop
 mul-e c = search rules
@@ -29,16 +29,16 @@ add-k : tie.Need-overflow-add-k invariant-loop decreases-loop
 add-k c = search rules
 
 returns : tie.Need-returns invariant-loop decreases-loop
-returns c = sym (parting-falls c.before.before.before.loop.invariant c.before.before.loop-test.true c.if1.true)
+returns c = sym (parting_falls c.before.before.before.loop.invariant c.before.before.loop-test.true c.if1.true)
 
 loop-less : tie.Need-loop-smaller invariant-loop decreases-loop
 loop-less c = search rules
 
 loop-again : tie.Need-loop-preserved invariant-loop decreases-loop
-loop-again c = parting-next c.before.before.before.loop.invariant c.before.before.loop-test.true c.if1.false
+loop-again c = parting_next c.before.before.before.loop.invariant c.before.before.loop-test.true c.if1.false
 
 returns-2 : tie.Need-returns-2 invariant-loop decreases-loop
-returns-2 c = parting-end c.before.loop.invariant c.loop-test.false
+returns-2 c = parting_end c.before.loop.invariant c.loop-test.false
 
 pub parts-all-spec : {M : Type 1} → statement M
 parts-all-spec =

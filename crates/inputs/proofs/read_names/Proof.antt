@@ -1,5 +1,5 @@
 -- `inputs::read_names` meets its contract: it reads the list and checks its names. Assumes nothing.
-use Rattle.inputs.proofs.Naming.{count-from, count-to, from-long, to-long, len-long, names-got}
+use Rattle.inputs.proofs.Naming.{count_from, count_to, from_long, to_long, len_long, names_got}
 use mathlib.Core.Path.{sym}
 use lib.Seq.{length-take-le}
 use Rattle.inputs.proofs.read_names.Statement.{statement}
@@ -23,28 +23,28 @@ slice-reshare-prefix-check-list : tie.Need-slice-reshare-prefix-check-list
 slice-reshare-prefix-check-list c =
     let at-read-list = c.before.before.before.before.before.before.before in
     let at_pre = at-read-list.before.before.before.before.before.before.before.before in
-    count-from _ _ _ _ _ _ _ _ at_pre.requires.0 at_pre.requires.1 at_pre.requires.2 at-read-list.read-list.ensures c.rows-ahead.ensures
+    count_from _ _ _ _ _ _ _ _ at_pre.requires.0 at_pre.requires.1 at_pre.requires.2 at-read-list.read-list.ensures c.rows-ahead.ensures
 
 slice-aggregate-check-list : tie.Need-slice-aggregate-check-list
 slice-aggregate-check-list c =
     let at-rows-ahead = c.before in
     let at-read-list = at-rows-ahead.before.before.before.before.before.before.before in
     let at_pre = at-read-list.before.before.before.before.before.before.before.before in
-    sym (length-take-le _ _ (count-from _ _ _ _ _ _ _ _ at_pre.requires.0 at_pre.requires.1 at_pre.requires.2 at-read-list.read-list.ensures at-rows-ahead.rows-ahead.ensures))
+    sym (length-take-le _ _ (count_from _ _ _ _ _ _ _ _ at_pre.requires.0 at_pre.requires.1 at_pre.requires.2 at-read-list.read-list.ensures at-rows-ahead.rows-ahead.ensures))
 
 slice-reshare-prefix-check-list-2 : tie.Need-slice-reshare-prefix-check-list-2
 slice-reshare-prefix-check-list-2 c =
     let at-rows-ahead = c.before in
     let at-read-list = at-rows-ahead.before.before.before.before.before.before.before in
     let at_pre = at-read-list.before.before.before.before.before.before.before.before in
-    count-to _ _ _ _ _ _ _ _ at_pre.requires.0 at_pre.requires.1 at_pre.requires.2 at-read-list.read-list.ensures at-rows-ahead.rows-ahead.ensures
+    count_to _ _ _ _ _ _ _ _ at_pre.requires.0 at_pre.requires.1 at_pre.requires.2 at-read-list.read-list.ensures at-rows-ahead.rows-ahead.ensures
 
 slice-aggregate-check-list-2 : tie.Need-slice-aggregate-check-list-2
 slice-aggregate-check-list-2 c =
     let at-rows-ahead = c.before.before in
     let at-read-list = at-rows-ahead.before.before.before.before.before.before.before in
     let at_pre = at-read-list.before.before.before.before.before.before.before.before in
-    sym (length-take-le _ _ (count-to _ _ _ _ _ _ _ _ at_pre.requires.0 at_pre.requires.1 at_pre.requires.2 at-read-list.read-list.ensures at-rows-ahead.rows-ahead.ensures))
+    sym (length-take-le _ _ (count_to _ _ _ _ _ _ _ _ at_pre.requires.0 at_pre.requires.1 at_pre.requires.2 at-read-list.read-list.ensures at-rows-ahead.rows-ahead.ensures))
 
 check-list-requires : tie.Need-check-list-requires
 check-list-requires c κs = tt
@@ -79,7 +79,7 @@ returns c =
     let at-rows-ahead = at-check-list.before.before.before in
     let at-read-list = at-rows-ahead.before.before.before.before.before.before.before in
     let at_pre = at-read-list.before.before.before.before.before.before.before.before in
-    (names-got _ _ _ _ _ _ _ _ at_pre.requires.0 at_pre.requires.1 at_pre.requires.2 at-read-list.read-list.ensures at-rows-ahead.rows-ahead.ensures at-check-list.check-list.ensures at-verdict-at.verdict-at.ensures at-check-verdict.check-verdict.ensures c.first.ensures, from-long _ _ _ _ _ _ _ _ at_pre.requires.0 at_pre.requires.1 at_pre.requires.2 at-read-list.read-list.ensures, to-long _ _ _ _ _ _ _ _ at_pre.requires.0 at_pre.requires.1 at_pre.requires.2 at-read-list.read-list.ensures, len-long _ _ _ _ _ _ _ _ at_pre.requires.0 at_pre.requires.1 at_pre.requires.2 at-read-list.read-list.ensures)
+    (names_got _ _ _ _ _ _ _ _ at_pre.requires.0 at_pre.requires.1 at_pre.requires.2 at-read-list.read-list.ensures at-rows-ahead.rows-ahead.ensures at-check-list.check-list.ensures at-verdict-at.verdict-at.ensures at-check-verdict.check-verdict.ensures c.first.ensures, from_long _ _ _ _ _ _ _ _ at_pre.requires.0 at_pre.requires.1 at_pre.requires.2 at-read-list.read-list.ensures, to_long _ _ _ _ _ _ _ _ at_pre.requires.0 at_pre.requires.1 at_pre.requires.2 at-read-list.read-list.ensures, len_long _ _ _ _ _ _ _ _ at_pre.requires.0 at_pre.requires.1 at_pre.requires.2 at-read-list.read-list.ensures)
 
 pub read-names-spec : {M : Type 1} → statement M
 read-names-spec =

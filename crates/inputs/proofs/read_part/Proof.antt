@@ -1,5 +1,5 @@
 -- `inputs::read_part` meets its contract. Assumes nothing.
-use Rattle.inputs.proofs.Filling.{part-read}
+use Rattle.inputs.proofs.Filling.{part_read}
 use mathlib.Core.Path.{refl}
 use borrow.Author.Rules.{rules}
 use Rattle.inputs.proofs.read_part.Statement.{statement}
@@ -63,7 +63,7 @@ returns : tie.Need-returns
 returns c =
     let at-read-rows = c.before.before.before.before.before.before in
     let at_pre = at-read-rows.before.before.before.before.before.before.before.before.before.before.before in
-    part-read _ _ _ _ _ _ _ _ _ _ _ at_pre.requires refl at-read-rows.read-rows.ensures
+    part_read _ _ _ _ _ _ _ _ _ _ _ at_pre.requires refl at-read-rows.read-rows.ensures
 
 pub read-part-spec : {M : Type 1} → statement M
 read-part-spec =

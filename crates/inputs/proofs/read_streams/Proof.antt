@@ -1,7 +1,7 @@
 -- `inputs::read_streams` meets its contract: one stream's text more at a time. Assumes nothing.
 use borrow.Author.Rules.{rules}
-use Rattle.inputs.proofs.Streaming.{some-ends, few-ends, streams-few, streams-all, ends-apart, ends-within, stream-text, stream-slots, Streaming, streaming-start, streaming-got, streaming-top, streaming-end}
-use Rattle.inputs.specs.Parted.{streamTexts}
+use Rattle.inputs.proofs.Streaming.{some_ends, few_ends, streams_few, streams_all, ends_apart, ends_within, stream_text, stream_slots, Streaming, streaming_start, streaming_got, streaming_top, streaming_end}
+use Rattle.inputs.specs.Parted.{stream_texts}
 use Rattle.heads.specs.View.{cols}
 use Rattle.fields.specs.Names.{names}
 use lib.ListN.{length}
@@ -18,78 +18,78 @@ use Rattle.inputs.proofs.rows_ahead.Reads as rows-ahead-reads
 use Rattle.inputs.proofs.verdict_at.Reads as verdict-at-reads
 
 abbrev invariant-loop : tie.invariant-loop
-invariant-loop bytes ends list from to chrom₀ start₀ stop₀ n verdict₀ tops₀ k₀ chrom start stop verdict tops k = Streaming (names list from to) (streamTexts bytes ends) (cols chrom start stop) verdict tops k
+invariant-loop bytes ends list from to chrom₀ start₀ stop₀ n verdict₀ tops₀ k₀ chrom start stop verdict tops k = Streaming (names list from to) (stream_texts bytes ends) (cols chrom start stop) verdict tops k
 
 abbrev decreases-loop : tie.decreases-loop
 decreases-loop bytes ends list from to chrom₀ start₀ stop₀ n verdict₀ tops₀ k₀ chrom start stop verdict tops k = n - k
 
 sub-n : tie.Need-overflow-sub-n invariant-loop decreases-loop
-sub-n c = some-ends c.before.before.before.before.before.before.before.before.requires
+sub-n c = some_ends c.before.before.before.before.before.before.before.before.requires
 
 loop-holds : tie.Need-loop-init invariant-loop decreases-loop
 loop-holds c =
     let at_pre = c.before.before.before.before.before.before.before.before in
-    streaming-start _ _ _ _ (record { chrom = at_pre.requires.chrom; start = at_pre.requires.start; stop = at_pre.requires.stop }) refl
+    streaming_start _ _ _ _ (record { chrom = at_pre.requires.chrom; start = at_pre.requires.start; stop = at_pre.requires.stop }) refl
 
 add_a : tie.Need-overflow-add-a invariant-loop decreases-loop
 add_a c =
     let at_pre = c.before.before.before.before.before.before.before.before.before.before in
-    omega (arith, few-ends at_pre.requires)
+    omega (arith, few_ends at_pre.requires)
 
 mul-a : tie.Need-overflow-mul-a invariant-loop decreases-loop
 mul-a c =
     let at_pre = c.before.before.before.before.before.before.before.before.before.before in
-    omega (arith, few-ends at_pre.requires)
+    omega (arith, few_ends at_pre.requires)
 
 shared-slice-read-a : tie.Need-shared-slice-read-a invariant-loop decreases-loop
 shared-slice-read-a c =
     let at_pre = c.before.before.before.before.before.before.before.before.before.before.before in
-    omega (arith, some-ends at_pre.requires)
+    omega (arith, some_ends at_pre.requires)
 
 add-b : tie.Need-overflow-add-b invariant-loop decreases-loop
 add-b c =
     let at_pre = c.before.before.before.before.before.before.before.before.before.before.before in
-    omega (arith, few-ends at_pre.requires)
+    omega (arith, few_ends at_pre.requires)
 
 mul-b : tie.Need-overflow-mul-b invariant-loop decreases-loop
 mul-b c =
     let at_pre = c.before.before.before.before.before.before.before.before.before.before.before in
-    omega (arith, few-ends at_pre.requires)
+    omega (arith, few_ends at_pre.requires)
 
 shared-slice-read-b : tie.Need-shared-slice-read-b invariant-loop decreases-loop
 shared-slice-read-b c =
     let at_pre = c.before.before.before.before.before.before.before.before.before.before.before.before in
-    omega (arith, some-ends at_pre.requires)
+    omega (arith, some_ends at_pre.requires)
 
 mul-p : tie.Need-overflow-mul-p invariant-loop decreases-loop
 mul-p c =
     let at_pre = c.before.before.before.before.before.before.before.before.before.before.before.before in
-    omega (arith, few-ends at_pre.requires)
+    omega (arith, few_ends at_pre.requires)
 
 sub-read-part : tie.Need-overflow-sub-read-part invariant-loop decreases-loop
 sub-read-part c =
     let at-loop-test = c.before.before in
     let at_pre = at-loop-test.before.before.before.before.before.before.before.before.before.before in
-    ends-apart at_pre.requires _ at-loop-test.loop-test.true
+    ends_apart at_pre.requires _ at-loop-test.loop-test.true
 
 part-read-part-start : tie.Need-slice-bounds-read-part-start invariant-loop decreases-loop
 part-read-part-start c =
     let at-loop-test = c.before.before in
     let at_pre = at-loop-test.before.before.before.before.before.before.before.before.before.before in
-    ends-apart at_pre.requires _ at-loop-test.loop-test.true
+    ends_apart at_pre.requires _ at-loop-test.loop-test.true
 
 part-read-part-end : tie.Need-slice-bounds-read-part-end invariant-loop decreases-loop
 part-read-part-end c =
     let at-loop-test = c.before.before in
     let at_pre = at-loop-test.before.before.before.before.before.before.before.before.before.before in
-    ends-within at_pre.requires _ at-loop-test.loop-test.true
+    ends_within at_pre.requires _ at-loop-test.loop-test.true
 
 read-part-requires : tie.Need-read-part-requires invariant-loop decreases-loop
 read-part-requires c κs =
     let at-loop-test = c.before.before.before.before.before.before in
     let at-loop = at-loop-test.before in
     let at_pre = at-loop.before.before.before.before.before.before.before.before.before in
-    stream-slots at_pre.requires _ at-loop-test.loop-test.true at-loop.loop.invariant.even
+    stream_slots at_pre.requires _ at-loop-test.loop-test.true at-loop.loop.invariant.even
 
 rows-ahead-requires : tie.Need-rows-ahead-requires invariant-loop decreases-loop
 rows-ahead-requires c κs = tt
@@ -100,22 +100,22 @@ add-tops c =
     let at-loop-test = at-read-part.before.before.before.before.before.before.before in
     let at-loop = at-loop-test.before in
     let at_pre = at-loop.before.before.before.before.before.before.before.before.before in
-    omega (arith, few-ends at_pre.requires, streaming-top at-loop.loop.invariant (omega (arith, streams-all at_pre.requires, at-loop-test.loop-test.true)) (streams-few at_pre.requires) refl (stream-text at_pre.requires _ at-loop-test.loop-test.true) at-read-part.read-part.ensures c.rows-ahead.ensures)
+    omega (arith, few_ends at_pre.requires, streaming_top at-loop.loop.invariant (omega (arith, streams_all at_pre.requires, at-loop-test.loop-test.true)) (streams_few at_pre.requires) refl (stream_text at_pre.requires _ at-loop-test.loop-test.true) at-read-part.read-part.ensures c.rows-ahead.ensures)
 
 mul-tops : tie.Need-overflow-mul-tops invariant-loop decreases-loop
 mul-tops c =
     let at_pre = c.before.before.before.before.before.before.before.before.before.before.before.before.before.before.before.before.before.before.before.before.before.before.before.before in
-    omega (arith, few-ends at_pre.requires)
+    omega (arith, few_ends at_pre.requires)
 
 array-write-tops : tie.Need-array-write-tops invariant-loop decreases-loop
 array-write-tops c =
     let at-loop = c.before.before.before.before.before.before.before.before.before.before.before.before.before.before.before in
-    omega (arith, few-ends at-loop.before.before.before.before.before.before.before.before.before.requires, at-loop.loop.invariant.eight)
+    omega (arith, few_ends at-loop.before.before.before.before.before.before.before.before.before.requires, at-loop.loop.invariant.eight)
 
 add-verdict-at : tie.Need-overflow-add-verdict-at invariant-loop decreases-loop
 add-verdict-at c =
     let at_pre = c.before.before.before.before.before.before.before.before.before.before.before.before.before.before.before.before.before.before.before.before.before.before.before.before in
-    omega (arith, few-ends at_pre.requires)
+    omega (arith, few_ends at_pre.requires)
 
 verdict-at-requires : tie.Need-verdict-at-requires invariant-loop decreases-loop
 verdict-at-requires c κs = tt
@@ -126,7 +126,7 @@ first-requires c κs = tt
 add-k : tie.Need-overflow-add-k invariant-loop decreases-loop
 add-k c =
     let at_pre = c.before.before.before.before.before.before.before.before.before.before.before.before.before.before.before.before.before.before.before.before.before.before.before.before.before.before in
-    omega (arith, few-ends at_pre.requires)
+    omega (arith, few_ends at_pre.requires)
 
 loop-less : tie.Need-loop-smaller invariant-loop decreases-loop
 loop-less c = search rules
@@ -139,7 +139,7 @@ loop-again c =
     let at-loop-test = at-read-part.before.before.before.before.before.before.before in
     let at-loop = at-loop-test.before in
     let at_pre = at-loop.before.before.before.before.before.before.before.before.before in
-    streaming-got at-loop.loop.invariant (omega (arith, streams-all at_pre.requires, at-loop-test.loop-test.true)) (streams-few at_pre.requires) refl (stream-text at_pre.requires _ at-loop-test.loop-test.true) at-read-part.read-part.ensures at-rows-ahead.rows-ahead.ensures at-verdict-at.verdict-at.ensures c.first.ensures
+    streaming_got at-loop.loop.invariant (omega (arith, streams_all at_pre.requires, at-loop-test.loop-test.true)) (streams_few at_pre.requires) refl (stream_text at_pre.requires _ at-loop-test.loop-test.true) at-read-part.read-part.ensures at-rows-ahead.rows-ahead.ensures at-verdict-at.verdict-at.ensures c.first.ensures
 
 same_length : tie.Need-same-length invariant-loop decreases-loop
 same_length c =
@@ -163,7 +163,7 @@ returns : tie.Need-returns invariant-loop decreases-loop
 returns c =
     let at-loop = c.before in
     let at_pre = at-loop.before.before.before.before.before.before.before.before.before in
-    streaming-end at-loop.loop.invariant (omega (arith, streams-all at_pre.requires, c.loop-test.false)) (streams-few at_pre.requires)
+    streaming_end at-loop.loop.invariant (omega (arith, streams_all at_pre.requires, c.loop-test.false)) (streams_few at_pre.requires)
 
 pub read-streams-spec : {M : Type 1} → statement M
 read-streams-spec =

@@ -1,5 +1,5 @@
 -- `inputs::read_texts` meets its contract: the list, then the bases, then the streams. Assumes nothing.
-use Rattle.inputs.proofs.Reading.{texts-refused, some-texts, list-within, bases-apart, bases-within, base-slots, streams-readable, count-from, count-to, texts-read}
+use Rattle.inputs.proofs.Reading.{texts_refused, some_texts, list_within, bases_apart, bases_within, base_slots, streams_readable, count_from, count_to, texts_read}
 use borrow.Author.Tests.{not-true, not-false}
 use lib.Seq.{length-take-le}
 use native.Mathlib.Omega.{arith}
@@ -24,28 +24,28 @@ returns : tie.Need-returns
 returns c =
     let at-is-sized = c.before in
     let at_pre = at-is-sized.before.before.before.before.before.before.before.before.before.before.before.before in
-    texts-refused _ _ _ _ _ _ _ _ (sym at-is-sized.is-sized.ensures ∙ not-true _ c.if1.true) at_pre.requires refl
+    texts_refused _ _ _ _ _ _ _ _ (sym at-is-sized.is-sized.ensures ∙ not-true _ c.if1.true) at_pre.requires refl
 
 shared-slice-read-a : tie.Need-shared-slice-read-a
 shared-slice-read-a c =
     let at-if1 = c.before in
     let at-is-sized = at-if1.before in
     let at-args = at-is-sized.before.before.before.before.before.before.before.before.before.before.before.before in
-    omega (arith, some-texts at-args.args.bytes.now at-args.args.ends.now (sym at-is-sized.is-sized.ensures ∙ not-false _ at-if1.if1.false))
+    omega (arith, some_texts at-args.args.bytes.now at-args.args.ends.now (sym at-is-sized.is-sized.ensures ∙ not-false _ at-if1.if1.false))
 
 shared-slice-read-b : tie.Need-shared-slice-read-b
 shared-slice-read-b c =
     let at-if1 = c.before.before in
     let at-is-sized = at-if1.before in
     let at-args = at-is-sized.before.before.before.before.before.before.before.before.before.before.before.before in
-    omega (arith, some-texts at-args.args.bytes.now at-args.args.ends.now (sym at-is-sized.is-sized.ensures ∙ not-false _ at-if1.if1.false))
+    omega (arith, some_texts at-args.args.bytes.now at-args.args.ends.now (sym at-is-sized.is-sized.ensures ∙ not-false _ at-if1.if1.false))
 
 slice-aggregate-list : tie.Need-slice-aggregate-list
 slice-aggregate-list c =
     let at-if1 = c.before.before.before in
     let at-is-sized = at-if1.before in
     let at-args = at-is-sized.before.before.before.before.before.before.before.before.before.before.before.before in
-    sym (length-take-le _ _ (list-within at-args.args.bytes.now at-args.args.ends.now (sym at-is-sized.is-sized.ensures ∙ not-false _ at-if1.if1.false)))
+    sym (length-take-le _ _ (list_within at-args.args.bytes.now at-args.args.ends.now (sym at-is-sized.is-sized.ensures ∙ not-false _ at-if1.if1.false)))
 
 read-names-requires : tie.Need-read-names-requires
 read-names-requires c κs = search rules
@@ -55,21 +55,21 @@ sub-read-part c =
     let at-if1 = c.before.before.before.before.before.before.before.before.before.before.before.before.before in
     let at-is-sized = at-if1.before in
     let at-args = at-is-sized.before.before.before.before.before.before.before.before.before.before.before.before in
-    bases-apart at-args.args.bytes.now at-args.args.ends.now (sym at-is-sized.is-sized.ensures ∙ not-false _ at-if1.if1.false)
+    bases_apart at-args.args.bytes.now at-args.args.ends.now (sym at-is-sized.is-sized.ensures ∙ not-false _ at-if1.if1.false)
 
 part-read-part-start : tie.Need-slice-bounds-read-part-start
 part-read-part-start c =
     let at-if1 = c.before.before.before.before.before.before.before.before.before.before.before.before.before in
     let at-is-sized = at-if1.before in
     let at-args = at-is-sized.before.before.before.before.before.before.before.before.before.before.before.before in
-    bases-apart at-args.args.bytes.now at-args.args.ends.now (sym at-is-sized.is-sized.ensures ∙ not-false _ at-if1.if1.false)
+    bases_apart at-args.args.bytes.now at-args.args.ends.now (sym at-is-sized.is-sized.ensures ∙ not-false _ at-if1.if1.false)
 
 part-read-part-end : tie.Need-slice-bounds-read-part-end
 part-read-part-end c =
     let at-if1 = c.before.before.before.before.before.before.before.before.before.before.before.before.before in
     let at-is-sized = at-if1.before in
     let at-args = at-is-sized.before.before.before.before.before.before.before.before.before.before.before.before in
-    bases-within at-args.args.bytes.now at-args.args.ends.now (sym at-is-sized.is-sized.ensures ∙ not-false _ at-if1.if1.false)
+    bases_within at-args.args.bytes.now at-args.args.ends.now (sym at-is-sized.is-sized.ensures ∙ not-false _ at-if1.if1.false)
 
 slice-reshare-prefix-read-part : tie.Need-slice-reshare-prefix-read-part
 slice-reshare-prefix-read-part c = search rules
@@ -77,7 +77,7 @@ slice-reshare-prefix-read-part c = search rules
 slice-aggregate-read-part : tie.Need-slice-aggregate-read-part
 slice-aggregate-read-part c =
     let at-read-names = c.before.before.before.before.before.before.before.before in
-    sym (length-take-le _ _ (count-from at-read-names.read_names.ensures.0 at-read-names.read_names.ensures.1))
+    sym (length-take-le _ _ (count_from at-read-names.read_names.ensures.0 at-read-names.read_names.ensures.1))
 
 slice-reshare-prefix-read-part-2 : tie.Need-slice-reshare-prefix-read-part-2
 slice-reshare-prefix-read-part-2 c = search rules
@@ -85,13 +85,13 @@ slice-reshare-prefix-read-part-2 c = search rules
 slice-aggregate-read-part-2 : tie.Need-slice-aggregate-read-part-2
 slice-aggregate-read-part-2 c =
     let at-read-names = c.before.before.before.before.before.before.before.before.before in
-    sym (length-take-le _ _ (count-to at-read-names.read_names.ensures.0 at-read-names.read_names.ensures.2))
+    sym (length-take-le _ _ (count_to at-read-names.read_names.ensures.0 at-read-names.read_names.ensures.2))
 
 read-part-requires : tie.Need-read-part-requires
 read-part-requires c κs =
     let at-read-names = c.before.before.before.before.before.before.before.before.before.before.before.before in
     let at_pre = at-read-names.before.before.before.before.before.before.before.before.before.before.before.before.before.before.before.before.before.before.before.before in
-    base-slots at-read-names.read_names.ensures.0 at_pre.requires.base-chrom at_pre.requires.base-start at_pre.requires.base-stop
+    base_slots at-read-names.read_names.ensures.0 at_pre.requires.base_chrom at_pre.requires.base_start at_pre.requires.base_stop
 
 slice-reshare-prefix-read-streams : tie.Need-slice-reshare-prefix-read-streams
 slice-reshare-prefix-read-streams c = search rules
@@ -99,7 +99,7 @@ slice-reshare-prefix-read-streams c = search rules
 slice-aggregate-read-streams : tie.Need-slice-aggregate-read-streams
 slice-aggregate-read-streams c =
     let at-read-names = c.before.before.before.before.before.before.before.before.before.before.before.before.before.before.before.before.before.before.before.before in
-    sym (length-take-le _ _ (count-from at-read-names.read_names.ensures.0 at-read-names.read_names.ensures.1))
+    sym (length-take-le _ _ (count_from at-read-names.read_names.ensures.0 at-read-names.read_names.ensures.1))
 
 slice-reshare-prefix-read-streams-2 : tie.Need-slice-reshare-prefix-read-streams-2
 slice-reshare-prefix-read-streams-2 c = search rules
@@ -107,7 +107,7 @@ slice-reshare-prefix-read-streams-2 c = search rules
 slice-aggregate-read-streams-2 : tie.Need-slice-aggregate-read-streams-2
 slice-aggregate-read-streams-2 c =
     let at-read-names = c.before.before.before.before.before.before.before.before.before.before.before.before.before.before.before.before.before.before.before.before.before in
-    sym (length-take-le _ _ (count-to at-read-names.read_names.ensures.0 at-read-names.read_names.ensures.2))
+    sym (length-take-le _ _ (count_to at-read-names.read_names.ensures.0 at-read-names.read_names.ensures.2))
 
 read-streams-requires : tie.Need-read-streams-requires
 read-streams-requires c κs =
@@ -115,7 +115,7 @@ read-streams-requires c κs =
     let at-if1 = at-read-names.before.before.before.before.before.before.before in
     let at-is-sized = at-if1.before in
     let at_pre = at-is-sized.before.before.before.before.before.before.before.before.before.before.before.before in
-    streams-readable at-read-names.read_names.ensures.0 (sym at-is-sized.is-sized.ensures ∙ not-false _ at-if1.if1.false) at_pre.requires.chrom at_pre.requires.start at_pre.requires.stop
+    streams_readable at-read-names.read_names.ensures.0 (sym at-is-sized.is-sized.ensures ∙ not-false _ at-if1.if1.false) at_pre.requires.chrom at_pre.requires.start at_pre.requires.stop
 
 verdict-at-requires : tie.Need-verdict-at-requires
 verdict-at-requires c κs = tt
@@ -134,19 +134,19 @@ sub-t63 c =
     let at-if1 = c.before.before.before.before.before.before.before.before.before.before.before.before.before.before.before.before.before.before.before.before.before.before.before.before.before.before.before.before.before.before.before.before.before.before.before.before.before.before.before.before.before.before.before in
     let at-is-sized = at-if1.before in
     let at-args = at-is-sized.before.before.before.before.before.before.before.before.before.before.before.before in
-    omega (arith, some-texts at-args.args.bytes.now at-args.args.ends.now (sym at-is-sized.is-sized.ensures ∙ not-false _ at-if1.if1.false))
+    omega (arith, some_texts at-args.args.bytes.now at-args.args.ends.now (sym at-is-sized.is-sized.ensures ∙ not-false _ at-if1.if1.false))
 
 same_length : tie.Need-same-length
 same_length c =
     let at-read-names = c.before.before.before.before.before.before.before.before.before.before.before.before.before.before.before.before.before.before.before.before.before.before.before.before.before.before.before.before.before.before.before.before.before.before.before.before in
     let at_pre = at-read-names.before.before.before.before.before.before.before.before.before.before.before.before.before.before.before.before.before.before.before.before in
-    omega (arith, at-read-names.read_names.ensures.1, at_pre.requires.names-from)
+    omega (arith, at-read-names.read_names.ensures.1, at_pre.requires.names_from)
 
 same-length-2 : tie.Need-same-length-2
 same-length-2 c =
     let at-read-names = c.before.before.before.before.before.before.before.before.before.before.before.before.before.before.before.before.before.before.before.before.before.before.before.before.before.before.before.before.before.before.before.before.before.before.before.before in
     let at_pre = at-read-names.before.before.before.before.before.before.before.before.before.before.before.before.before.before.before.before.before.before.before.before in
-    omega (arith, at-read-names.read_names.ensures.2, at_pre.requires.names-to)
+    omega (arith, at-read-names.read_names.ensures.2, at_pre.requires.names_to)
 
 same-length-3 : tie.Need-same-length-3
 same-length-3 c =
@@ -191,7 +191,7 @@ returns-2 c =
     let at-if1 = at-read-names.before.before.before.before.before.before.before in
     let at-is-sized = at-if1.before in
     let at_pre = at-is-sized.before.before.before.before.before.before.before.before.before.before.before.before in
-    texts-read _ _ _ _ _ _ _ _ _ _ _ (sym at-is-sized.is-sized.ensures ∙ not-false _ at-if1.if1.false) at-read-names.read_names.ensures.0 at-read-names.read_names.ensures.1 at-read-names.read_names.ensures.2 at-read-names.read_names.ensures.3 at-read-part.read-part.ensures at_pre.requires.base-chrom at_pre.requires.base-start at_pre.requires.base-stop at-read-streams.read-streams.ensures _ _ _ _ _ at-verdict-at.verdict-at.ensures at_first.first.ensures at-first2.first2.ensures c.rows-ahead.ensures refl
+    texts_read _ _ _ _ _ _ _ _ _ _ _ (sym at-is-sized.is-sized.ensures ∙ not-false _ at-if1.if1.false) at-read-names.read_names.ensures.0 at-read-names.read_names.ensures.1 at-read-names.read_names.ensures.2 at-read-names.read_names.ensures.3 at-read-part.read-part.ensures at_pre.requires.base_chrom at_pre.requires.base_start at_pre.requires.base_stop at-read-streams.read-streams.ensures _ _ _ _ _ at-verdict-at.verdict-at.ensures at_first.first.ensures at-first2.first2.ensures c.rows-ahead.ensures refl
 
 pub read-texts-spec : {M : Type 1} → statement M
 read-texts-spec =

@@ -1,6 +1,6 @@
 -- `is_sooner` meets its contract: each test of a place decides, or leaves it to the next.
 use mathlib.Core.Path.{sym, ◌∙◌}
-use Rattle.basics.proofs.LexLaws.{lex-below, lex-above, lex-tie}
+use Rattle.basics.proofs.LexLaws.{lex_below, lex_above, lex_tie}
 use Rattle.least.specs.Least.{sooner}
 use borrow.Author.Rules.{rules}
 use Rattle.least.proofs.is_sooner.Statement.{statement}
@@ -13,21 +13,21 @@ array-read-if1 c = search rules
 
 returns : tie.Need-returns
 unfolding sooner
-returns c = sym (lex-below _ _ _ c.if1.true)
+returns c = sym (lex_below _ _ _ c.if1.true)
 
 array-read-if2 : tie.Need-array-read-if2
 array-read-if2 c = search rules
 
 returns-2 : tie.Need-returns-2
 unfolding sooner
-returns-2 c = sym (lex-above _ _ _ c.if2.true)
+returns-2 c = sym (lex_above _ _ _ c.if2.true)
 
 array-read-if3 : tie.Need-array-read-if3
 array-read-if3 c = search rules
 
 returns-3 : tie.Need-returns-3
 unfolding sooner
-returns-3 c = sym (lex-tie _ _ _ c.before.before.before.before.if1.false c.before.before.if2.false ∙ lex-below _ _ _ c.if3.true)
+returns-3 c = sym (lex_tie _ _ _ c.before.before.before.before.if1.false c.before.before.if2.false ∙ lex_below _ _ _ c.if3.true)
 
 array-read-if4 : tie.Need-array-read-if4
 array-read-if4 c = search rules
@@ -37,7 +37,7 @@ unfolding sooner
 returns-4 c =
     let at-if2 = c.before.before.before.before in
     let at-if1 = at-if2.before.before in
-    sym (lex-tie _ _ _ at-if1.if1.false at-if2.if2.false ∙ lex-above _ _ _ c.if4.true)
+    sym (lex_tie _ _ _ at-if1.if1.false at-if2.if2.false ∙ lex_above _ _ _ c.if4.true)
 
 array-read-result : tie.Need-array-read-result
 array-read-result c = search rules
@@ -49,7 +49,7 @@ returns-5 c =
     let at-if3 = at-if4.before.before in
     let at-if2 = at-if3.before.before in
     let at-if1 = at-if2.before.before in
-    sym (lex-tie _ _ _ at-if1.if1.false at-if2.if2.false ∙ lex-tie _ _ _ at-if3.if3.false at-if4.if4.false)
+    sym (lex_tie _ _ _ at-if1.if1.false at-if2.if2.false ∙ lex_tie _ _ _ at-if3.if3.false at-if4.if4.false)
 
 pub is-sooner-spec : {M : Type 1} → statement M
 is-sooner-spec =

@@ -1,7 +1,7 @@
 -- `least` meets its contract: the head of the stream that was chosen.
 use mathlib.Core.Path.{◌≡◌, refl, sym, ◌∙◌, ap}
 use native.Mathlib.Omega.{arith}
-use Rattle.least.proofs.LeastLaws.{least-none, least_at}
+use Rattle.least.proofs.LeastLaws.{least_none, least_at}
 use borrow.Author.Rules.{rules}
 use Rattle.least.proofs.least.Statement.{statement}
 use Rattle.least.proofs.least.Tie as tie
@@ -10,7 +10,7 @@ choose-requires : tie.Need-choose-requires
 choose-requires c κs = search rules
 
 returns : tie.Need-returns
-returns c = least-none c.before.before.args.fours.now c.before.before.args.ended.now c.before.before.args.n (rw c.before.choose.ensures at c.if1.true)
+returns c = least_none c.before.before.args.fours.now c.before.before.args.ended.now c.before.before.args.n (rw c.before.choose.ensures at c.if1.true)
 
 place-in-requires : tie.Need-place-in-requires
 place-in-requires c κs = search rules

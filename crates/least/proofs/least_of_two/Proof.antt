@@ -1,7 +1,7 @@
 -- `least_of_two` meets its contract: of one stream its mark decides, of two their marks and their heads.
 use mathlib.Core.Path.{◌≡◌, refl, sym, ◌∙◌, ap}
 use native.Mathlib.Omega.{arith}
-use Rattle.least.proofs.LeastLaws.{of_one, of-both}
+use Rattle.least.proofs.LeastLaws.{of_one, of_both}
 use borrow.Author.Rules.{rules}
 use Rattle.least.proofs.least_of_two.Statement.{statement}
 use Rattle.least.proofs.least_of_two.Tie as tie
@@ -48,7 +48,7 @@ returns-3 c =
     let at-if1 = at-has-ended2.before in
     let at-args = at-if1.before in
     let two : at-args.args.n ≡ 2 = omega (arith, at-if1.if1.false, at-args.requires.1) in
-    rw two (rw (at-if3.if3.true, c.if4.true) at (of-both at-args.args.t1 at-args.args.t2 _ _ _ at-has-ended3.has-ended3.ensures at-has-ended2.has-ended2.ensures refl))
+    rw two (rw (at-if3.if3.true, c.if4.true) at (of_both at-args.args.t1 at-args.args.t2 _ _ _ at-has-ended3.has-ended3.ensures at-has-ended2.has-ended2.ensures refl))
 
 returns-4 : tie.Need-returns-4
 returns-4 c =
@@ -58,7 +58,7 @@ returns-4 c =
     let at-if1 = at-has-ended2.before in
     let at-args = at-if1.before in
     let two : at-args.args.n ≡ 2 = omega (arith, at-if1.if1.false, at-args.requires.1) in
-    rw two (rw (at-if3.if3.true, c.if4.false) at (of-both at-args.args.t1 at-args.args.t2 _ _ _ at-has-ended3.has-ended3.ensures at-has-ended2.has-ended2.ensures refl))
+    rw two (rw (at-if3.if3.true, c.if4.false) at (of_both at-args.args.t1 at-args.args.t2 _ _ _ at-has-ended3.has-ended3.ensures at-has-ended2.has-ended2.ensures refl))
 
 array-read-has-ended-4 : tie.Need-array-read-has-ended-4
 array-read-has-ended-4 c = search rules
@@ -74,7 +74,7 @@ returns-5 c =
     let at-if1 = at-has-ended2.before in
     let at-args = at-if1.before in
     let two : at-args.args.n ≡ 2 = omega (arith, at-if1.if1.false, at-args.requires.1) in
-    rw two (rw (at-if3.if3.false, c.if5.true) at (of-both at-args.args.t1 at-args.args.t2 _ _ _ at-has-ended4.has-ended4.ensures at-has-ended2.has-ended2.ensures refl))
+    rw two (rw (at-if3.if3.false, c.if5.true) at (of_both at-args.args.t1 at-args.args.t2 _ _ _ at-has-ended4.has-ended4.ensures at-has-ended2.has-ended2.ensures refl))
 
 array-copy-out-best-at : tie.Need-array-copy-out-best-at
 array-copy-out-best-at c = search rules
@@ -99,7 +99,7 @@ returns-6 c =
     let at-if1 = at-has-ended2.before in
     let at-args = at-if1.before in
     let two : at-args.args.n ≡ 2 = omega (arith, at-if1.if1.false, at-args.requires.1) in
-    rw two (rw (at-if3.if3.false, at-if5.if5.false, c.if6.true) at (of-both at-args.args.t1 at-args.args.t2 _ _ _ at-has-ended4.has-ended4.ensures at-has-ended2.has-ended2.ensures (at-is-sooner.is-sooner.ensures ∙ rw at-best-at.best-at.ensures)))
+    rw two (rw (at-if3.if3.false, at-if5.if5.false, c.if6.true) at (of_both at-args.args.t1 at-args.args.t2 _ _ _ at-has-ended4.has-ended4.ensures at-has-ended2.has-ended2.ensures (at-is-sooner.is-sooner.ensures ∙ rw at-best-at.best-at.ensures)))
 
 returns-7 : tie.Need-returns-7
 returns-7 c =
@@ -112,7 +112,7 @@ returns-7 c =
     let at-if1 = at-has-ended2.before in
     let at-args = at-if1.before in
     let two : at-args.args.n ≡ 2 = omega (arith, at-if1.if1.false, at-args.requires.1) in
-    rw two (rw (at-if3.if3.false, at-if5.if5.false, c.if6.false) at (of-both at-args.args.t1 at-args.args.t2 _ _ _ at-has-ended4.has-ended4.ensures at-has-ended2.has-ended2.ensures (at-is-sooner.is-sooner.ensures ∙ rw at-best-at.best-at.ensures)))
+    rw two (rw (at-if3.if3.false, at-if5.if5.false, c.if6.false) at (of_both at-args.args.t1 at-args.args.t2 _ _ _ at-has-ended4.has-ended4.ensures at-has-ended2.has-ended2.ensures (at-is-sooner.is-sooner.ensures ∙ rw at-best-at.best-at.ensures)))
 
 pub least-of-two-spec : {M : Type 1} → statement M
 least-of-two-spec =

@@ -5,7 +5,7 @@ use native.Mathlib.Omega.{arith}
 use borrow.Author.Rules.{rules}
 use lib.ListN.{length, drop}
 use Rattle.lines.specs.Lines.{numbered}
-use Rattle.lines.proofs.Fields.{size-more, size_none}
+use Rattle.lines.proofs.Fields.{size_more, size_none}
 use Rattle.lines.proofs.fields_size.Statement.{statement}
 use Rattle.lines.proofs.fields_size.Tie as tie
 
@@ -40,7 +40,7 @@ loop-less : tie.Need-loop-smaller invariant-loop decreases-loop
 loop-less c = search rules
 
 loop-again : tie.Need-loop-preserved invariant-loop decreases-loop
-loop-again c = omega (arith, size-more c.before.before.before.before.before.args.numbers.now c.before.before.before.loop.k (omega arith))
+loop-again c = omega (arith, size_more c.before.before.before.before.before.args.numbers.now c.before.before.before.loop.k (omega arith))
 
 returns : tie.Need-returns invariant-loop decreases-loop
 returns c = omega (arith, size_none c.before.before.before.args.numbers.now c.before.loop.k (omega arith))

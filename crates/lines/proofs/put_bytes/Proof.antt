@@ -6,7 +6,7 @@ use native.Mathlib.Numerals.{add-one}
 use borrow.Author.Rules.{rules}
 use lib.ListN.{length, length-set}
 use lib.Seq.{paste, paste-zero, paste-suc}
-use Rattle.lines.proofs.Laying.{laid-paste}
+use Rattle.lines.proofs.Laying.{laid_paste}
 use Rattle.lines.proofs.put_bytes.Statement.{statement}
 use Rattle.lines.proofs.put_bytes.Tie as tie
 
@@ -54,7 +54,7 @@ returns : tie.Need-returns invariant-loop decreases-loop
 returns c =
     let a = c.before.before.args in
     let e : c.before.loop.i ≡ length a.bytes.now = omega arith in
-    record { stop = omega arith; laid_in = c.before.loop.invariant.2 ∙ rw e (laid-paste a.out.now a.at a.bytes.now) }
+    record { stop = omega arith; laid_in = c.before.loop.invariant.2 ∙ rw e (laid_paste a.out.now a.at a.bytes.now) }
 
 pub put-bytes-spec : {M : Type 1} → statement M
 put-bytes-spec =

@@ -1,7 +1,7 @@
 -- `lines::put_field` meets its contract: the tab, and then the digits. Assumes nothing.
 use native.Mathlib.Omega.{arith}
 use borrow.Author.Rules.{rules}
-use Rattle.lines.proofs.Laying.{wrote-append}
+use Rattle.lines.proofs.Laying.{wrote_append}
 use Rattle.lines.proofs.put_field.Statement.{statement}
 use Rattle.lines.proofs.put_field.Tie as tie
 
@@ -18,7 +18,7 @@ same_length : tie.Need-same-length
 same_length c = search rules
 
 returns : tie.Need-returns
-returns c = wrote-append c.before.before.before.before.before.before.put-bytes.ensures (omega arith) c.before.before.put-decimal.ensures
+returns c = wrote_append c.before.before.before.before.before.before.put-bytes.ensures (omega arith) c.before.before.put-decimal.ensures
 
 pub put-field-spec : {M : Type 1} → statement M
 put-field-spec =

@@ -3,7 +3,7 @@ use Prim.Native.Nat.{◌-◌}
 use native.Mathlib.Omega.{arith}
 use borrow.Author.Rules.{rules}
 use lib.ListN.{length}
-use Rattle.lines.proofs.Fields.{Writing, writing_start, writing-room, writing-field, writing-done}
+use Rattle.lines.proofs.Fields.{Writing, writing_start, writing_room, writing_field, writing_done}
 use Rattle.lines.proofs.put_fields.Statement.{statement}
 use Rattle.lines.proofs.put_fields.Tie as tie
 
@@ -23,7 +23,7 @@ shared-slice-read-put-field : tie.Need-shared-slice-read-put-field invariant-loo
 shared-slice-read-put-field c = search rules
 
 put-field-requires : tie.Need-put-field-requires invariant-loop decreases-loop
-put-field-requires c κs = writing-room c.before.before.before.loop.invariant c.before.before.before.before.before.before.requires (omega arith)
+put-field-requires c κs = writing_room c.before.before.before.loop.invariant c.before.before.before.before.before.before.requires (omega arith)
 
 add-k : tie.Need-overflow-add-k invariant-loop decreases-loop
 add-k c = search rules
@@ -36,13 +36,13 @@ loop-again c =
     let at-put-field = c.before.before in
     let at-loop = at-put-field.before.before.before.before in
     let at_pre = at-loop.before.before.before in
-    writing-field at-loop.loop.invariant at_pre.requires (omega arith) at-put-field.put-field.ensures
+    writing_field at-loop.loop.invariant at_pre.requires (omega arith) at-put-field.put-field.ensures
 
 same_length : tie.Need-same-length invariant-loop decreases-loop
 same_length c = search rules
 
 returns : tie.Need-returns invariant-loop decreases-loop
-returns c = writing-done c.before.loop.invariant c.before.before.before.before.requires (omega arith)
+returns c = writing_done c.before.loop.invariant c.before.before.before.before.requires (omega arith)
 
 pub put-fields-spec : {M : Type 1} → statement M
 put-fields-spec =

@@ -2,7 +2,7 @@
 use mathlib.Core.List.{[], ◌∷◌}
 use native.Mathlib.Omega.{arith}
 use Rattle.lines.specs.Lines.{numbered}
-use Rattle.lines.proofs.Putting.{length-parts, puts_none, puts-parts}
+use Rattle.lines.proofs.Putting.{length_parts, puts_none, puts_parts}
 use borrow.Author.Rules.{rules}
 use Rattle.lines.proofs.put_line.Statement.{statement}
 use Rattle.lines.proofs.put_line.Tie as tie
@@ -22,12 +22,12 @@ add-size-2 c = search rules
 returns : tie.Need-returns
 returns c =
     let a = c.before.before.before.before.before.before.args in
-    puts_none (omega (arith, length-parts a.head.now a.name.now (numbered a.numbers.now) (10 ∷ [])))
+    puts_none (omega (arith, length_parts a.head.now a.name.now (numbered a.numbers.now) (10 ∷ [])))
 
 returns-2 : tie.Need-returns-2
 returns-2 c =
     let a = c.before.before.before.before.before.before.before.args in
-    puts_none (omega (arith, length-parts a.head.now a.name.now (numbered a.numbers.now) (10 ∷ [])))
+    puts_none (omega (arith, length_parts a.head.now a.name.now (numbered a.numbers.now) (10 ∷ [])))
 
 put-bytes-requires : tie.Need-put-bytes-requires
 put-bytes-requires c κs = search rules
@@ -50,7 +50,7 @@ same_length c = search rules
 returns-3 : tie.Need-returns-3
 returns-3 c =
     let at-then = c.before.before.before.before.before.before.before.before.before.before.before in
-    puts-parts
+    puts_parts
     (omega arith)
     at-then.before.before.before.before.put-bytes.ensures
     at-then.put-bytes2.ensures

@@ -1,5 +1,5 @@
 -- `listing::cedarlash_list` meets its contract. Assumes nothing.
-use Rattle.listing.proofs.Written.{told-written}
+use Rattle.listing.proofs.Written.{told_written}
 use borrow.Author.Rules.{rules}
 use Rattle.listing.proofs.cedarlash_list.Statement.{statement}
 use Rattle.listing.proofs.cedarlash_list.Tie as tie
@@ -47,7 +47,7 @@ same_length c = c.before.before.out.given
 returns : tie.Need-returns
 returns c =
     let at-list-columns = c.before.before.before.before.before.before.before.before.before.before.before.before in
-    told-written at-list-columns.list-columns.ensures c.told.ensures
+    told_written at-list-columns.list-columns.ensures c.told.ensures
 
 pub cedarlash-list-spec : {M : Type 1} → statement M
 cedarlash-list-spec =

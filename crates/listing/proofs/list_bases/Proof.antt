@@ -1,6 +1,6 @@
 -- `listing::list_bases` meets its contract: one base more at a time. Assumes nothing.
 use borrow.Author.Rules.{rules}
-use Rattle.listing.proofs.Telling.{Telling, telling-start, telling-end, telling-done, telling-on, Lengths, bases-fewer}
+use Rattle.listing.proofs.Telling.{Telling, telling_start, telling_end, telling_done, telling_on, Lengths, bases_fewer}
 use Rattle.listing.specs.Run.{lines_from}
 use Rattle.pulls.specs.Pulls.{lent}
 use Rattle.heads.specs.View.{cols}
@@ -21,13 +21,13 @@ decreases-loop n list from to lengths bchrom bstart bstop chrom start stop queue
 loop-holds : tie.Need-loop-init invariant-loop decreases-loop
 loop-holds c =
     let at_pre = c.before.before.before.before.before.before.before.before.before.before.before in
-    (telling-start _ _ _ _ _ _ (lent _ _) _ at_pre.requires.1 at_pre.requires.2, record { queue = refl; answers = refl; buffer = refl })
+    (telling_start _ _ _ _ _ _ (lent _ _) _ at_pre.requires.1 at_pre.requires.2, record { queue = refl; answers = refl; buffer = refl })
 
 list-row-requires : tie.Need-list-row-requires invariant-loop decreases-loop
 list-row-requires c κs =
     let at-loop-test = c.before.before.before in
     let at_pre = at-loop-test.before.before.before.before.before.before.before.before.before.before.before.before.before in
-    bases-fewer at_pre.requires.0 at-loop-test.loop-test.true
+    bases_fewer at_pre.requires.0 at-loop-test.loop-test.true
 
 add-i : tie.Need-overflow-add-i invariant-loop decreases-loop
 add-i c =
@@ -68,7 +68,7 @@ returns c =
     let at-list-row = at-step-after.before.before.before.before.before.before in
     let at-loop-test = at-list-row.before.before.before.before in
     let at-loop = at-loop-test.before in
-    telling-done at-loop.loop.invariant.0 at-loop-test.loop-test.true at-list-row.list-row.ensures (sym at-step-after.step_after.ensures ∙ c.enum_told.given.1)
+    telling_done at-loop.loop.invariant.0 at-loop-test.loop-test.true at-list-row.list-row.ensures (sym at-step-after.step_after.ensures ∙ c.enum_told.given.1)
 
 loop-less : tie.Need-loop-smaller invariant-loop decreases-loop
 loop-less c =
@@ -85,7 +85,7 @@ loop-again c =
     let at-list-row = at-queue.before in
     let at-loop-test = at-list-row.before.before.before.before in
     let at-loop = at-loop-test.before in
-    (telling-on at-loop.loop.invariant.0 at-loop-test.loop-test.true at-list-row.list-row.ensures (sym at-step-after.step_after.ensures ∙ at-step.step.given.1) at-answers.answers.given, record { queue = at-queue.queue.given ∙ at-loop.loop.invariant.1.queue; answers = at-answers.answers.given ∙ at-loop.loop.invariant.1.answers; buffer = at_out.out.given ∙ at-loop.loop.invariant.1.buffer })
+    (telling_on at-loop.loop.invariant.0 at-loop-test.loop-test.true at-list-row.list-row.ensures (sym at-step-after.step_after.ensures ∙ at-step.step.given.1) at-answers.answers.given, record { queue = at-queue.queue.given ∙ at-loop.loop.invariant.1.queue; answers = at-answers.answers.given ∙ at-loop.loop.invariant.1.answers; buffer = at_out.out.given ∙ at-loop.loop.invariant.1.buffer })
 
 same-length-4 : tie.Need-same-length-4 invariant-loop decreases-loop
 same-length-4 c = c.before.loop.invariant.1.queue
@@ -97,7 +97,7 @@ same-length-6 : tie.Need-same-length-6 invariant-loop decreases-loop
 same-length-6 c = c.before.loop.invariant.1.buffer
 
 returns-2 : tie.Need-returns-2 invariant-loop decreases-loop
-returns-2 c = telling-end c.before.loop.invariant.0 c.loop-test.false
+returns-2 c = telling_end c.before.loop.invariant.0 c.loop-test.false
 
 pub list-bases-spec : {M : Type 1} → statement M
 list-bases-spec =

@@ -1,6 +1,6 @@
 -- `listing::list_columns` meets its contract: the texts are read, and a fault or the bases are listed. Assumes nothing.
-use Rattle.walk.proofs.FineLaws.{fine-read}
-use Rattle.listing.proofs.Written.{reads-fault}
+use Rattle.walk.proofs.FineLaws.{fine_read}
+use Rattle.listing.proofs.Written.{reads_fault}
 use borrow.Author.Rules.{rules}
 use Rattle.listing.proofs.list_columns.Statement.{statement}
 use Rattle.listing.proofs.list_columns.Tie as tie
@@ -21,7 +21,7 @@ list-run-requires : tie.Need-list-run-requires
 list-run-requires c κs =
     let at-enum-told = c.before.before.before.before.before.before.before.before.before.before in
     let at-read-texts = at-enum-told.before.before.before.before.before.before.before.before.before.before.before.before.before.before.before.before.before.before.before.before in
-    fine-read at-read-texts.read-texts.ensures at-enum-told.enum_told.given.1
+    fine_read at-read-texts.read-texts.ensures at-enum-told.enum_told.given.1
 
 enum-known-verdict : tie.Need-enum-known-verdict
 enum-known-verdict c = search rules
@@ -134,7 +134,7 @@ returns-2 c =
     let at-put-fault = c.before.before.before in
     let at-verdict = at-put-fault.before.before.before in
     let at-read-texts = at-verdict.before.before.before.before.before.before.before.before.before.before.before.before.before.before.before.before.before.before.before.before in
-    reads-fault at-read-texts.read-texts.ensures at-verdict.verdict.given.1 at-put-fault.put-fault.ensures c.only.ensures
+    reads_fault at-read-texts.read-texts.ensures at-verdict.verdict.given.1 at-put-fault.put-fault.ensures c.only.ensures
 
 pub list-columns-spec : {M : Type 1} → statement M
 list-columns-spec =

@@ -1,6 +1,6 @@
 -- `listing::list_run` meets its contract: the run begins, and its bases are listed. Assumes nothing.
-use Rattle.walk.proofs.FineLaws.{list-ends, list-in, names-from, names-to, names-len, bases-read}
-use Rattle.listing.proofs.Listed.{run-comes, run-listed}
+use Rattle.walk.proofs.FineLaws.{list_ends, list_in, names_from, names_to, names_len, bases_read}
+use Rattle.listing.proofs.Listed.{run_comes, run_listed}
 use lib.Seq.{length-take-le}
 use native.Mathlib.Omega.{arith}
 use mathlib.Core.Path.{refl, sym}
@@ -11,32 +11,32 @@ use Rattle.listing.proofs.list_run.Tie as tie
 shared-slice-read-a : tie.Need-shared-slice-read-a
 shared-slice-read-a c =
     let at-args = c.before.before.before.before.before.before.before.before.before.before.before.before.before in
-    omega (arith, list-ends at-args.args.bytes.now at-args.args.ends.now at-args.requires)
+    omega (arith, list_ends at-args.args.bytes.now at-args.args.ends.now at-args.requires)
 
 slice-aggregate-list : tie.Need-slice-aggregate-list
 slice-aggregate-list c =
     let at-args = c.before.before.before.before.before.before.before.before.before.before.before.before.before.before in
-    sym (length-take-le _ _ (list-in at-args.args.bytes.now at-args.args.ends.now at-args.requires))
+    sym (length-take-le _ _ (list_in at-args.args.bytes.now at-args.args.ends.now at-args.requires))
 
 begin-requires : tie.Need-begin-requires
 begin-requires c κs =
     let at_pre = c.before.before.before.before.before.before.before.before.before.before.before.before.before.before in
-    (names-from at_pre.requires, names-to at_pre.requires)
+    (names_from at_pre.requires, names_to at_pre.requires)
 
 slice-aggregate-list-bases : tie.Need-slice-aggregate-list-bases
 slice-aggregate-list-bases c =
     let at_pre = c.before.before.before.before.before.before.before.before.before.before.before.before.before.before.before.before in
-    sym (length-take-le _ _ (names-from at_pre.requires))
+    sym (length-take-le _ _ (names_from at_pre.requires))
 
 slice-aggregate-list-bases-2 : tie.Need-slice-aggregate-list-bases-2
 slice-aggregate-list-bases-2 c =
     let at_pre = c.before.before.before.before.before.before.before.before.before.before.before.before.before.before.before.before.before in
-    sym (length-take-le _ _ (names-to at_pre.requires))
+    sym (length-take-le _ _ (names_to at_pre.requires))
 
 slice-aggregate-list-bases-3 : tie.Need-slice-aggregate-list-bases-3
 slice-aggregate-list-bases-3 c =
     let at_pre = c.before.before.before.before.before.before.before.before.before.before.before.before.before.before.before.before.before.before in
-    sym (length-take-le _ _ (names-len at_pre.requires))
+    sym (length-take-le _ _ (names_len at_pre.requires))
 
 slice-aggregate-list-bases-4 : tie.Need-slice-aggregate-list-bases-4
 slice-aggregate-list-bases-4 c = search rules
@@ -48,7 +48,7 @@ list-bases-requires : tie.Need-list-bases-requires
 list-bases-requires c κs =
     let at-begin = c.before.before.before.before.before.before in
     let at-args = at-begin.before.before.before.before.before.before.before.before.before.before.before.before.before.before.before in
-    (bases-read at-args.args.bytes.now at-args.args.ends.now at-args.requires, run-comes at-args.args.bytes.now at-args.args.ends.now at-args.requires at-begin.begin.ensures _ refl, refl)
+    (bases_read at-args.args.bytes.now at-args.args.ends.now at-args.requires, run_comes at-args.args.bytes.now at-args.args.ends.now at-args.requires at-begin.begin.ensures _ refl, refl)
 
 same_length : tie.Need-same-length
 same_length c = c.before.out.given
@@ -58,7 +58,7 @@ returns c =
     let at-list-bases = c.before.before.before.before in
     let at-begin = at-list-bases.before.before.before.before.before.before.before in
     let at-args = at-begin.before.before.before.before.before.before.before.before.before.before.before.before.before.before.before in
-    run-listed at-args.args.bytes.now at-args.args.ends.now at-args.requires at-begin.begin.ensures _ at-list-bases.list-bases.ensures
+    run_listed at-args.args.bytes.now at-args.args.ends.now at-args.requires at-begin.begin.ensures _ at-list-bases.list-bases.ensures
 
 pub list-run-spec : {M : Type 1} → statement M
 list-run-spec =

@@ -2,7 +2,7 @@
 use mathlib.Core.Path.{sym, ◌∙◌}
 use borrow.Author.Rules.{rules}
 use borrow.Author.Tests.{not-true, not-false}
-use Rattle.many.proofs.Whole.{told-going, none-given, over-given, uneven-given, wrong-given, passable, passed-given}
+use Rattle.many.proofs.Whole.{told_going, none_given, over_given, uneven_given, wrong_given, passable, passed_given}
 use Rattle.many.proofs.give_all.Statement.{statement}
 use Rattle.many.proofs.give_all.Tie as tie
 
@@ -13,7 +13,7 @@ none-passed-requires : tie.Need-none-passed-requires
 none-passed-requires c κs = search rules
 
 returns : tie.Need-returns
-returns c = none-given _ c.before.before.are-even.ensures c.before.if1.true _ c.none_passed.ensures
+returns c = none_given _ c.before.before.are-even.ensures c.before.if1.true _ c.none_passed.ensures
 
 stage-requires : tie.Need-stage-requires
 stage-requires c κs = search rules
@@ -30,7 +30,7 @@ returns-2 c =
     let at_stage = at-stage2.before.before in
     let at-if1 = at_stage.before in
     let at-are-even = at-if1.before in
-    over-given _ at-are-even.are-even.ensures at-if1.if1.false _ (sym at_stage.stage.ensures ∙ at-stage2.stage2.given.1) _ c.none-passed2.ensures
+    over_given _ at-are-even.are-even.ensures at-if1.if1.false _ (sym at_stage.stage.ensures ∙ at-stage2.stage2.given.1) _ c.none-passed2.ensures
 
 none-passed-requires-3 : tie.Need-none-passed-requires-3
 none-passed-requires-3 c κs = search rules
@@ -41,7 +41,7 @@ returns-3 c =
     let at-match = at-if2.before in
     let at_stage = at-match.before in
     let at-are-even = at_stage.before.before in
-    uneven-given _ at-are-even.are-even.ensures (told-going _ _ at_stage.stage.ensures at-match.match.keys2) _ c.none-passed3.ensures (not-true _ at-if2.if2.true)
+    uneven_given _ at-are-even.are-even.ensures (told_going _ _ at_stage.stage.ensures at-match.match.keys2) _ c.none-passed3.ensures (not-true _ at-if2.if2.true)
 
 ring-requires : tie.Need-ring-requires
 ring-requires c κs = search rules
@@ -65,7 +65,7 @@ returns-4 c =
     let at_stage = at-match.before in
     let at-if1 = at_stage.before in
     let at-are-even = at-if1.before in
-    wrong-given _ at-are-even.are-even.ensures (told-going _ _ at_stage.stage.ensures at-match.match.keys2) _ c.none-passed4.ensures at-if1.if1.false (not-false _ at-if2.if2.false) (record { ring = at-ring.ring.ensures; is = at-is-right.is_right.ensures }) (not-true _ at-if3.if3.true)
+    wrong_given _ at-are-even.are-even.ensures (told_going _ _ at_stage.stage.ensures at-match.match.keys2) _ c.none-passed4.ensures at-if1.if1.false (not-false _ at-if2.if2.false) (record { ring = at-ring.ring.ensures; is = at-is-right.is_right.ensures }) (not-true _ at-if3.if3.true)
 
 pass-requires : tie.Need-pass-requires
 pass-requires c κs =
@@ -77,7 +77,7 @@ pass-requires c κs =
     let at_stage = at-match.before in
     let at-if1 = at_stage.before in
     let at-are-even = at-if1.before in
-    passable _ at-are-even.are-even.ensures (told-going _ _ at_stage.stage.ensures at-match.match.keys2) at-if1.if1.false (not-false _ at-if2.if2.false) (record { ring = at-ring.ring.ensures; is = at-is-right.is_right.ensures }) (not-false _ at-if3.if3.false)
+    passable _ at-are-even.are-even.ensures (told_going _ _ at_stage.stage.ensures at-match.match.keys2) at-if1.if1.false (not-false _ at-if2.if2.false) (record { ring = at-ring.ring.ensures; is = at-is-right.is_right.ensures }) (not-false _ at-if3.if3.false)
 
 same-length-2 : tie.Need-same-length-2
 same-length-2 c = search rules
@@ -93,7 +93,7 @@ returns-5 c =
     let at-pass = c.before.before.before.before in
     let at-if2 = at-pass.before.before.before.before.before.before.before.before.before.before.before.before.before.before.before in
     let at-are-even = at-if2.before.before.before.before in
-    passed-given _ at-are-even.are-even.ensures (not-false _ at-if2.if2.false) _ _ _ at-pass.pass.ensures
+    passed_given _ at-are-even.are-even.ensures (not-false _ at-if2.if2.false) _ _ _ at-pass.pass.ensures
 
 pub give-all-spec : {M : Type 1} → statement M
 give-all-spec =

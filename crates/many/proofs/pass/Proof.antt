@@ -6,18 +6,18 @@ use Prim.Native.Nat.{◌-◌}
 use native.Mathlib.Omega.{arith}
 use lib.ListN.{length}
 use borrow.Author.Rules.{rules}
-use Rattle.heads.specs.View.{cols, headsBy}
+use Rattle.heads.specs.View.{cols, heads_by}
 use Rattle.heads.specs.Move.{Shaped}
 use Rattle.pulls.specs.Pulls.{lent}
-use Rattle.runs.specs.View.{headsOf}
-use Rattle.runs.proofs.Flat.{heads-flat}
-use Rattle.many.proofs.Passing.{Job, Turn, begins, answers-as, count-place, ready, over-out, refused-out, more-place, more-fit, found-out, fewer, at_most}
+use Rattle.runs.specs.View.{heads_of}
+use Rattle.runs.proofs.Flat.{heads_flat}
+use Rattle.many.proofs.Passing.{Job, Turn, begins, answers_as, count_place, ready, over_out, refused_out, more_place, more_fit, found_out, fewer, at_most}
 use Rattle.many.proofs.pass.Statement.{statement}
 use Rattle.many.proofs.pass.Tie as tie
 
 abbrev invariant-loop : tie.invariant-loop
 invariant-loop run bchrom bstart bstop chrom start stop lengths queue₀ answers₀ counts₀ from to fixed fours₀ ended₀ next₀ ring₀ mark₀ offer₀ last₀ free₀ k₀ going₀ queue answers counts fours ended next ring mark offer last free k going =
-    Turn (record { s = cols chrom start stop; lengths = lengths; t = cols bchrom bstart bstop; v = run; l = lent queue₀ answers₀; ns = counts₀ }) going last (headsBy fours ended next from to fixed.streams) ring mark offer free k (lent queue answers) counts
+    Turn (record { s = cols chrom start stop; lengths = lengths; t = cols bchrom bstart bstop; v = run; l = lent queue₀ answers₀; ns = counts₀ }) going last (heads_by fours ended next from to fixed.streams) ring mark offer free k (lent queue answers) counts
 
 abbrev decreases-loop : tie.decreases-loop
 decreases-loop run bchrom bstart bstop chrom start stop lengths queue₀ answers₀ counts₀ from to fixed fours₀ ended₀ next₀ ring₀ mark₀ offer₀ last₀ free₀ k₀ going₀ queue answers counts fours ended next ring mark offer last free k going =
@@ -35,7 +35,7 @@ job c = record {
 }
 
 -- every array has its eight places, as its type says
-shaped : (c : tie.Start invariant-loop decreases-loop) → Shaped (headsOf c.args.run)
+shaped : (c : tie.Start invariant-loop decreases-loop) → Shaped (heads_of c.args.run)
 shaped c = search rules
 
 fours-requires : tie.Need-fours-requires invariant-loop decreases-loop
@@ -49,7 +49,7 @@ loop-holds c =
     let at-ring = c.before in
     let at-fours = at-ring.before.before.before in
     let at_pre = at-fours.before.before.before.before.before.before.before.before.before.before.before.before in
-    begins (job (at_pre)) at_pre.requires (shaped (at_pre)) _ (rw at-fours.fours.ensures (heads-flat (headsOf at_pre.args.run) (shaped (at_pre)))) _ at-ring.ring.ensures
+    begins (job (at_pre)) at_pre.requires (shaped (at_pre)) _ (rw at-fours.fours.ensures (heads_flat (heads_of at_pre.args.run) (shaped (at_pre)))) _ at-ring.ring.ensures
 
 base-at-requires : tie.Need-base-at-requires invariant-loop decreases-loop
 base-at-requires c κs =
@@ -91,13 +91,13 @@ mul-counts c =
     let at-loop-test = c.before.before.before.before.before.before.before.before.before.before.before.before.before.before in
     let at-loop = at-loop-test.before in
     let at-good = at-loop.before.before.before.before.before.before.before.before.before.before.before.before.before.before.before.before.before in
-    omega (arith, at-good.well-formed, at-loop.loop.invariant.counts, count-place (at-loop.loop.invariant.on at-loop-test.loop-test.true))
+    omega (arith, at-good.well-formed, at-loop.loop.invariant.counts, count_place (at-loop.loop.invariant.on at-loop-test.loop-test.true))
 
 slice-write-counts : tie.Need-slice-write-counts invariant-loop decreases-loop
 slice-write-counts c =
     let at-loop-test = c.before.before.before.before.before.before.before.before.before.before.before.before.before.before in
     let at-loop = at-loop-test.before in
-    omega (arith, at-loop.loop.invariant.counts, count-place (at-loop.loop.invariant.on at-loop-test.loop-test.true))
+    omega (arith, at-loop.loop.invariant.counts, count_place (at-loop.loop.invariant.on at-loop-test.loop-test.true))
 
 add_free : tie.Need-overflow-add-free invariant-loop decreases-loop
 add_free c =
@@ -107,7 +107,7 @@ add_free c =
     let at-loop-test = at-base-at.before in
     let at-loop = at-loop-test.before in
     let at-good = at-loop.before.before.before.before.before.before.before.before.before.before.before.before.before.before.before.before.before in
-    omega (arith, at-good.well-formed.1.1.1.1.1.1.1.1.1.0, more-place (at-loop.loop.invariant.on at-loop-test.loop-test.true) at-base-at.base-at.ensures at-step.step.ensures (omega (arith, at-step.step.auto)) (omega (arith, at-step.step.auto)) _ _ at-answer.answer.given.1)
+    omega (arith, at-good.well-formed.1.1.1.1.1.1.1.1.1.0, more_place (at-loop.loop.invariant.on at-loop-test.loop-test.true) at-base-at.base-at.ensures at-step.step.ensures (omega (arith, at-step.step.auto)) (omega (arith, at-step.step.auto)) _ _ at-answer.answer.given.1)
 
 add-k : tie.Need-overflow-add-k invariant-loop decreases-loop
 add-k c =
@@ -126,7 +126,7 @@ is-more-requires c κs =
     let at-base-at = at-step.before.before.before.before.before.before.before.before in
     let at-loop-test = at-base-at.before in
     let at-loop = at-loop-test.before in
-    more-fit (at-loop.loop.invariant.on at-loop-test.loop-test.true) at-base-at.base-at.ensures at-step.step.ensures (omega (arith, at-step.step.auto)) (omega (arith, at-step.step.auto)) _ _ at-answer.answer.given.1
+    more_fit (at-loop.loop.invariant.on at-loop-test.loop-test.true) at-base-at.base-at.ensures at-step.step.ensures (omega (arith, at-step.step.auto)) (omega (arith, at-step.step.auto)) _ _ at-answer.answer.given.1
 
 loop-less : tie.Need-loop-smaller invariant-loop decreases-loop
 loop-less c =
@@ -142,7 +142,7 @@ loop-again c =
     let at-base-at = at-step.before.before.before.before.before.before.before.before in
     let at-loop-test = at-base-at.before in
     let at-loop = at-loop-test.before in
-    found-out (at-loop.loop.invariant.on at-loop-test.loop-test.true) at-base-at.base-at.ensures at-step.step.ensures (omega (arith, at-step.step.auto)) (omega (arith, at-step.step.auto)) _ _ at-answer.answer.given.1 (record { from = refl; to = refl; streams = refl }) _ at-mark-of.mark_of.ensures _ c.is-more.ensures
+    found_out (at-loop.loop.invariant.on at-loop-test.loop-test.true) at-base-at.base-at.ensures at-step.step.ensures (omega (arith, at-step.step.auto)) (omega (arith, at-step.step.auto)) _ _ at-answer.answer.given.1 (record { from = refl; to = refl; streams = refl }) _ at-mark-of.mark_of.ensures _ c.is-more.ensures
 
 enum-known-answer-2 : tie.Need-enum-known-answer-2 invariant-loop decreases-loop
 enum-known-answer-2 c = search rules
@@ -160,7 +160,7 @@ loop-again-2 c =
     let at-base-at = at-step.before.before.before.before.before.before.before.before in
     let at-loop-test = at-base-at.before in
     let at-loop = at-loop-test.before in
-    refused-out (at-loop.loop.invariant.on at-loop-test.loop-test.true) at-base-at.base-at.ensures at-step.step.ensures (omega (arith, at-step.step.auto)) (omega (arith, at-step.step.auto)) _ at-answer2.answer2.given.1
+    refused_out (at-loop.loop.invariant.on at-loop-test.loop-test.true) at-base-at.base-at.ensures at-step.step.ensures (omega (arith, at-step.step.auto)) (omega (arith, at-step.step.auto)) _ at-answer2.answer2.given.1
 
 enum-known-answer-3 : tie.Need-enum-known-answer-3 invariant-loop decreases-loop
 enum-known-answer-3 c = search rules
@@ -192,7 +192,7 @@ returns c =
     let at-base-at = at-step.before.before.before.before.before.before.before.before in
     let at-loop-test = at-base-at.before in
     let at-loop = at-loop-test.before in
-    rw c.over.ensures (over-out (at-loop.loop.invariant.on at-loop-test.loop-test.true) at-base-at.base-at.ensures at-step.step.ensures _ at-answer3.answer3.given.1)
+    rw c.over.ensures (over_out (at-loop.loop.invariant.on at-loop-test.loop-test.true) at-base-at.base-at.ensures at-step.step.ensures _ at-answer3.answer3.given.1)
 
 gather-requires : tie.Need-gather-requires invariant-loop decreases-loop
 gather-requires c κs = search rules
@@ -207,7 +207,7 @@ same-length-6 : tie.Need-same-length-6 invariant-loop decreases-loop
 same-length-6 c = omega (arith, c.before.before.loop.invariant.counts)
 
 returns-2 : tie.Need-returns-2 invariant-loop decreases-loop
-returns-2 c = answers-as c.gather.ensures (c.before.before.loop.invariant.off c.before.loop-test.false)
+returns-2 c = answers_as c.gather.ensures (c.before.before.loop.invariant.off c.before.loop-test.false)
 
 pub pass_spec : {M : Type 1} → statement M
 pass_spec =

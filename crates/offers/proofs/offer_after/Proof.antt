@@ -8,7 +8,7 @@ use Rattle.offers.proofs.is_awaited.Reads as is-awaited-reads
 use Rattle.offers.proofs.place_for.Reads as place-for-reads
 use mathlib.Core.Path.{◌≡◌, refl, sym, ◌∙◌}
 use borrow.Author.Tests.{not-true, not-false}
-use Rattle.offers.proofs.PlaceLaws.{by_length, by_front, by-none, by-other, by-head}
+use Rattle.offers.proofs.PlaceLaws.{by_length, by_front, by_none, by_other, by_head}
 use native.Mathlib.Omega.{arith}
 
 returns : tie.Need-returns
@@ -28,7 +28,7 @@ returns-2 c =
     let at-enum-told = c.before.before.before in
     let at-if1 = at-enum-told.before.before in
     let at-args = at-if1.before.before in
-    by-none at-args.args.b at-args.args.first at-args.args.h _ at-if1.if1.false at-enum-told.enum_told.given.1 refl c.if2.true
+    by_none at-args.args.b at-args.args.first at-args.args.h _ at-if1.if1.false at-enum-told.enum_told.given.1 refl c.if2.true
 
 is-awaited-requires : tie.Need-is-awaited-requires
 is-awaited-requires c κs = search rules
@@ -40,7 +40,7 @@ returns-3 c =
     let at-enum-told = at-if2.before.before.before in
     let at-if1 = at-enum-told.before.before in
     let at-args = at-if1.before.before in
-    by-other at-args.args.b at-args.args.first at-args.args.h _ at-if1.if1.false at-enum-told.enum_told.given.1 refl at-if2.if2.false (sym at-is-awaited.is-awaited.ensures ∙ not-true _ c.if3.true)
+    by_other at-args.args.b at-args.args.first at-args.args.h _ at-if1.if1.false at-enum-told.enum_told.given.1 refl at-if2.if2.false (sym at-is-awaited.is-awaited.ensures ∙ not-true _ c.if3.true)
 
 place-for-requires-2 : tie.Need-place-for-requires-2
 place-for-requires-2 c κs = search rules
@@ -60,7 +60,7 @@ returns-5 c =
     let at-enum-told = at-if2.before.before.before in
     let at-if1 = at-enum-told.before.before in
     let at-args = at-if1.before.before in
-    by-head at-args.args.b at-args.args.first at-args.args.h _ at-if1.if1.false at-enum-told.enum_told.given.1 c.place-for2.ensures at-if2.if2.false (sym at-is-awaited.is-awaited.ensures ∙ not-false _ at-if3.if3.false)
+    by_head at-args.args.b at-args.args.first at-args.args.h _ at-if1.if1.false at-enum-told.enum_told.given.1 c.place-for2.ensures at-if2.if2.false (sym at-is-awaited.is-awaited.ensures ∙ not-false _ at-if3.if3.false)
 
 pub offer-after-spec : {M : Type 1} → statement M
 offer-after-spec =

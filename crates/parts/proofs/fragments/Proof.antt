@@ -1,7 +1,7 @@
 -- `parts::fragments` meets its contract: a refusal leaves the columns; else `lay` wrote the layout, which reads back as the fragments. Assumes nothing.
-use Rattle.parts.proofs.Answers.{sized, refused, ready_at, written_at, refused-at}
+use Rattle.parts.proofs.Answers.{sized, refused, ready_at, written_at, refused_at}
 use Rattle.parts.specs.Promise.{lens_of}
-use Rattle.parts.specs.Valid.{sizedOf}
+use Rattle.parts.specs.Valid.{sized_of}
 use Rattle.layouts.specs.Columns.{columns}
 use Rattle.layouts.specs.declared.Refusal.TheVariants.{Sizes}
 use borrow.Author.Tests.{not-true, not-false}
@@ -20,7 +20,7 @@ returns c =
     let at-args = at-is-sized.before.before.before.before.before.before.before.before.before.before in
     let a = at-args.args in
     let cs = (columns a.present.now a.bstart.now a.bstop.now a.from.now a.to.now a.pstart.now a.pstop.now) in
-    let s : sizedOf (lens_of a.starts.now a.stops.now cs) ≡ false = sym at-is-sized.is-sized.ensures ∙ not-true _ c.if1.true in
+    let s : sized_of (lens_of a.starts.now a.stops.now cs) ≡ false = sym at-is-sized.is-sized.ensures ∙ not-true _ c.if1.true in
     refused a.a a.b a.base a.starts.now a.stops.now cs Sizes (rw s)
 
 rule-of-requires : tie.Need-rule-of-requires
@@ -33,7 +33,7 @@ judge-requires c κs =
     let at-args = at-is-sized.before.before.before.before.before.before.before.before.before.before in
     let a = at-args.args in
     let cs = (columns a.present.now a.bstart.now a.bstop.now a.from.now a.to.now a.pstart.now a.pstop.now) in
-    let s : sizedOf (lens_of a.starts.now a.stops.now cs) ≡ true = sym at-is-sized.is-sized.ensures ∙ not-false _ at-if1.if1.false in
+    let s : sized_of (lens_of a.starts.now a.stops.now cs) ≡ true = sym at-is-sized.is-sized.ensures ∙ not-false _ at-if1.if1.false in
     (sized (lens_of a.starts.now a.stops.now cs) s).records
 
 enum-known-answer : tie.Need-enum-known-answer
@@ -49,7 +49,7 @@ lay-requires c κs =
     let at-args = at-is-sized.before.before.before.before.before.before.before.before.before.before in
     let a = at-args.args in
     let cs = (columns a.present.now a.bstart.now a.bstop.now a.from.now a.to.now a.pstart.now a.pstop.now) in
-    let s : sizedOf (lens_of a.starts.now a.stops.now cs) ≡ true = sym at-is-sized.is-sized.ensures ∙ not-false _ at-if1.if1.false in
+    let s : sized_of (lens_of a.starts.now a.stops.now cs) ≡ true = sym at-is-sized.is-sized.ensures ∙ not-false _ at-if1.if1.false in
     ((sized (lens_of a.starts.now a.stops.now cs) s).records, ready_at a.a a.b a.base a.starts.now a.stops.now cs s at-rule-of.rule-of.ensures at-judge.judge.ensures at-answer.answer.given.1)
 
 enum-known-answer-2 : tie.Need-enum-known-answer-2
@@ -91,7 +91,7 @@ returns-2 c =
     let at-args = at-is-sized.before.before.before.before.before.before.before.before.before.before in
     let a = at-args.args in
     let cs = (columns a.present.now a.bstart.now a.bstop.now a.from.now a.to.now a.pstart.now a.pstop.now) in
-    let s : sizedOf (lens_of a.starts.now a.stops.now cs) ≡ true = sym at-is-sized.is-sized.ensures ∙ not-false _ at-if1.if1.false in
+    let s : sized_of (lens_of a.starts.now a.stops.now cs) ≡ true = sym at-is-sized.is-sized.ensures ∙ not-false _ at-if1.if1.false in
     written_at a.a a.b a.base a.starts.now a.stops.now cs s at-rule-of.rule-of.ensures at-judge.judge.ensures at-answer.answer.given.1 at-lay.lay.ensures
 
 returns-3 : tie.Need-returns-3
@@ -104,8 +104,8 @@ returns-3 c =
     let at-args = at-is-sized.before.before.before.before.before.before.before.before.before.before in
     let a = at-args.args in
     let cs = (columns a.present.now a.bstart.now a.bstop.now a.from.now a.to.now a.pstart.now a.pstop.now) in
-    let s : sizedOf (lens_of a.starts.now a.stops.now cs) ≡ true = sym at-is-sized.is-sized.ensures ∙ not-false _ at-if1.if1.false in
-    refused-at a.a a.b a.base a.starts.now a.stops.now cs s at-rule-of.rule-of.ensures at-judge.judge.ensures at-answer2.answer2.given.1
+    let s : sized_of (lens_of a.starts.now a.stops.now cs) ≡ true = sym at-is-sized.is-sized.ensures ∙ not-false _ at-if1.if1.false in
+    refused_at a.a a.b a.base a.starts.now a.stops.now cs s at-rule-of.rule-of.ensures at-judge.judge.ensures at-answer2.answer2.given.1
 
 pub fragments-spec : {M : Type 1} → statement M
 fragments-spec =

@@ -4,20 +4,20 @@ use Prim.Native.Nat.{ℕ}
 use lib.ListN.{length}
 use native.Mathlib.Omega.{arith}
 use borrow.Author.Rules.{rules}
-use Rattle.heads.specs.View.{Cols, cols, headsBy}
+use Rattle.heads.specs.View.{Cols, cols, heads_by}
 use Rattle.heads.specs.Move.{turn_of}
 use Rattle.pulls.specs.Pulls.{lent}
-use Rattle.pulls.proofs.Pulling.{Pulling, pulling, rowsLeft, placed, scannable, stay-out, wrong-out, takes-full, takes-place, takes-less, takes-again}
+use Rattle.pulls.proofs.Pulling.{Pulling, pulling, rows_left, placed, scannable, stay_out, wrong_out, takes_full, takes_place, takes_less, takes_again}
 use Rattle.pulls.proofs.draw.Statement.{statement}
 use Rattle.pulls.proofs.draw.Tie as tie
 
 abbrev invariant-loop : tie.invariant-loop
 invariant-loop fours₀ ended₀ next₀ from to fixed b chrom start stop queue₀ answers₀ n q₀ fours ended next queue answers q =
-    Pulling (cols chrom start stop) fixed.chroms (headsBy fours₀ ended₀ next₀ from to fixed.streams) b q₀ (lent queue₀ answers₀) (headsBy fours ended next from to fixed.streams) q (lent queue answers)
+    Pulling (cols chrom start stop) fixed.chroms (heads_by fours₀ ended₀ next₀ from to fixed.streams) b q₀ (lent queue₀ answers₀) (heads_by fours ended next from to fixed.streams) q (lent queue answers)
 
 abbrev decreases-loop : tie.decreases-loop
 decreases-loop fours₀ ended₀ next₀ from to fixed b chrom start stop queue₀ answers₀ n q₀ fours ended next queue answers q =
-    rowsLeft (cols chrom start stop) fixed.chroms (headsBy fours₀ ended₀ next₀ from to fixed.streams) b q₀ (lent queue₀ answers₀) (headsBy fours ended next from to fixed.streams)
+    rows_left (cols chrom start stop) fixed.chroms (heads_by fours₀ ended₀ next₀ from to fixed.streams) b q₀ (lent queue₀ answers₀) (heads_by fours ended next from to fixed.streams)
 
 number-requires : tie.Need-number-requires invariant-loop decreases-loop
 number-requires c κs = search rules
@@ -53,7 +53,7 @@ returns c =
     let at-loop = at-decide.before.before.before.before in
     let at-number = at-loop.before in
     let at-args = at-number.before.before.before.before in
-    stay-out _ _ _ _ _ _ _ _ _ at-loop.loop.invariant _ (at-decide.decide.ensures ∙ ap (λ (n : ℕ). turn_of (cols at-args.args.chrom.now at-args.args.start.now at-args.args.stop.now) n at-args.args.b (headsBy at-loop.loop.fours at-loop.loop.ended at-loop.loop.next at-args.args.from.now at-args.args.to.now at-args.args.fixed.streams)) at-number.number.ensures) _ at-m.m.given.1 _ _ at-report.report.ensures
+    stay_out _ _ _ _ _ _ _ _ _ at-loop.loop.invariant _ (at-decide.decide.ensures ∙ ap (λ (n : ℕ). turn_of (cols at-args.args.chrom.now at-args.args.start.now at-args.args.stop.now) n at-args.args.b (heads_by at-loop.loop.fours at-loop.loop.ended at-loop.loop.next at-args.args.from.now at-args.args.to.now at-args.args.fixed.streams)) at-number.number.ensures) _ at-m.m.given.1 _ _ at-report.report.ensures
 
 enum-known-m-2 : tie.Need-enum-known-m-2 invariant-loop decreases-loop
 enum-known-m-2 c = search rules
@@ -71,7 +71,7 @@ returns-2 c =
     let at-loop = at-decide.before.before.before.before in
     let at-number = at-loop.before in
     let at-args = at-number.before.before.before.before in
-    wrong-out _ _ _ _ _ _ _ _ _ at-loop.loop.invariant _ (at-decide.decide.ensures ∙ ap (λ (n : ℕ). turn_of (cols at-args.args.chrom.now at-args.args.start.now at-args.args.stop.now) n at-args.args.b (headsBy at-loop.loop.fours at-loop.loop.ended at-loop.loop.next at-args.args.from.now at-args.args.to.now at-args.args.fixed.streams)) at-number.number.ensures) _ at-m2.m2.given.1
+    wrong_out _ _ _ _ _ _ _ _ _ at-loop.loop.invariant _ (at-decide.decide.ensures ∙ ap (λ (n : ℕ). turn_of (cols at-args.args.chrom.now at-args.args.start.now at-args.args.stop.now) n at-args.args.b (heads_by at-loop.loop.fours at-loop.loop.ended at-loop.loop.next at-args.args.from.now at-args.args.to.now at-args.args.fixed.streams)) at-number.number.ensures) _ at-m2.m2.given.1
 
 enum-known-m-3 : tie.Need-enum-known-m-3 invariant-loop decreases-loop
 enum-known-m-3 c = search rules
@@ -87,7 +87,7 @@ go-on-requires c κs =
     let at-loop = at-decide.before.before.before.before in
     let at-number = at-loop.before in
     let at-args = at-number.before.before.before.before in
-    takes-place _ _ _ _ _ _ _ _ _ at-loop.loop.invariant _ (at-decide.decide.ensures ∙ ap (λ (n : ℕ). turn_of (cols at-args.args.chrom.now at-args.args.start.now at-args.args.stop.now) n at-args.args.b (headsBy at-loop.loop.fours at-loop.loop.ended at-loop.loop.next at-args.args.from.now at-args.args.to.now at-args.args.fixed.streams)) at-number.number.ensures) _ _ at-m3.m3.given.1 _ at-place-in.IsPlace-in.ensures
+    takes_place _ _ _ _ _ _ _ _ _ at-loop.loop.invariant _ (at-decide.decide.ensures ∙ ap (λ (n : ℕ). turn_of (cols at-args.args.chrom.now at-args.args.start.now at-args.args.stop.now) n at-args.args.b (heads_by at-loop.loop.fours at-loop.loop.ended at-loop.loop.next at-args.args.from.now at-args.args.to.now at-args.args.fixed.streams)) at-number.number.ensures) _ _ at-m3.m3.given.1 _ at-place-in.IsPlace-in.ensures
 
 keep-requires : tie.Need-keep-requires invariant-loop decreases-loop
 keep-requires c κs =
@@ -119,7 +119,7 @@ returns-3 c =
     let at-loop = at-decide.before.before.before.before in
     let at-number = at-loop.before in
     let at-args = at-number.before.before.before.before in
-    takes-full _ _ _ _ _ _ _ _ _ at-loop.loop.invariant _ (at-decide.decide.ensures ∙ ap (λ (n : ℕ). turn_of (cols at-args.args.chrom.now at-args.args.start.now at-args.args.stop.now) n at-args.args.b (headsBy at-loop.loop.fours at-loop.loop.ended at-loop.loop.next at-args.args.from.now at-args.args.to.now at-args.args.fixed.streams)) at-number.number.ensures) _ _ at-m3.m3.given.1 _ (at-keep.keep.ensures.full c.enum_told.given.1)
+    takes_full _ _ _ _ _ _ _ _ _ at-loop.loop.invariant _ (at-decide.decide.ensures ∙ ap (λ (n : ℕ). turn_of (cols at-args.args.chrom.now at-args.args.start.now at-args.args.stop.now) n at-args.args.b (heads_by at-loop.loop.fours at-loop.loop.ended at-loop.loop.next at-args.args.from.now at-args.args.to.now at-args.args.fixed.streams)) at-number.number.ensures) _ _ at-m3.m3.given.1 _ (at-keep.keep.ensures.full c.enum_told.given.1)
 
 loop-less : tie.Need-loop-smaller invariant-loop decreases-loop
 loop-less c =
@@ -130,7 +130,7 @@ loop-less c =
     let at-loop = at-decide.before.before.before.before in
     let at-number = at-loop.before in
     let at-args = at-number.before.before.before.before in
-    takes-less _ _ _ _ _ _ _ _ _ at-loop.loop.invariant _ (at-decide.decide.ensures ∙ ap (λ (n : ℕ). turn_of (cols at-args.args.chrom.now at-args.args.start.now at-args.args.stop.now) n at-args.args.b (headsBy at-loop.loop.fours at-loop.loop.ended at-loop.loop.next at-args.args.from.now at-args.args.to.now at-args.args.fixed.streams)) at-number.number.ensures) _ _ at-m3.m3.given.1 _ at-place-in.IsPlace-in.ensures _ (at-go-on.go_on.ensures _ _ _)
+    takes_less _ _ _ _ _ _ _ _ _ at-loop.loop.invariant _ (at-decide.decide.ensures ∙ ap (λ (n : ℕ). turn_of (cols at-args.args.chrom.now at-args.args.start.now at-args.args.stop.now) n at-args.args.b (heads_by at-loop.loop.fours at-loop.loop.ended at-loop.loop.next at-args.args.from.now at-args.args.to.now at-args.args.fixed.streams)) at-number.number.ensures) _ _ at-m3.m3.given.1 _ at-place-in.IsPlace-in.ensures _ (at-go-on.go_on.ensures _ _ _)
 
 loop-again : tie.Need-loop-preserved invariant-loop decreases-loop
 loop-again c =
@@ -143,7 +143,7 @@ loop-again c =
     let at-loop = at-decide.before.before.before.before in
     let at-number = at-loop.before in
     let at-args = at-number.before.before.before.before in
-    takes-again _ _ _ _ _ _ _ _ _ at-loop.loop.invariant _ (at-decide.decide.ensures ∙ ap (λ (n : ℕ). turn_of (cols at-args.args.chrom.now at-args.args.start.now at-args.args.stop.now) n at-args.args.b (headsBy at-loop.loop.fours at-loop.loop.ended at-loop.loop.next at-args.args.from.now at-args.args.to.now at-args.args.fixed.streams)) at-number.number.ensures) _ _ at-m3.m3.given.1 _ at-place-in.IsPlace-in.ensures _ (at-go-on.go_on.ensures _ _ _) _ _ (at-keep.keep.ensures.done _ at_p.p.given.1)
+    takes_again _ _ _ _ _ _ _ _ _ at-loop.loop.invariant _ (at-decide.decide.ensures ∙ ap (λ (n : ℕ). turn_of (cols at-args.args.chrom.now at-args.args.start.now at-args.args.stop.now) n at-args.args.b (heads_by at-loop.loop.fours at-loop.loop.ended at-loop.loop.next at-args.args.from.now at-args.args.to.now at-args.args.fixed.streams)) at-number.number.ensures) _ _ at-m3.m3.given.1 _ at-place-in.IsPlace-in.ensures _ (at-go-on.go_on.ensures _ _ _) _ _ (at-keep.keep.ensures.done _ at_p.p.given.1)
 
 pub draw-spec : {M : Type 1} → statement M
 draw-spec =

@@ -1,5 +1,5 @@
 -- `replies::list_base` meets its contract: what the call of the sweep left gives the lines of the reply. Assumes nothing.
-use Rattle.replies.proofs.Replying.{reply-backs, reply-lists}
+use Rattle.replies.proofs.Replying.{reply_backs, reply_lists}
 use borrow.Author.Rules.{rules}
 use Rattle.replies.proofs.list_base.Statement.{statement}
 use Rattle.replies.proofs.list_base.Tie as tie
@@ -16,7 +16,7 @@ put-answer-requires : tie.Need-put-answer-requires
 put-answer-requires c κs =
     let at_give = c.before.before.before.before.before.before in
     let at-args = at_give.before.before.before.before.before.before.before.before.before.before in
-    reply-backs at_give.give.ensures at-args.args.run.from
+    reply_backs at_give.give.ensures at-args.args.run.from
 
 same_length : tie.Need-same-length
 same_length c = c.before.before.before.before.before.before.before.before.queue.given
@@ -32,7 +32,7 @@ returns c =
     let at-put-answer = c.before.before in
     let at_give = at-put-answer.before.before.before.before.before.before.before in
     let at-args = at_give.before.before.before.before.before.before.before.before.before.before in
-    reply-lists at_give.give.ensures at-args.args.name.now at-args.args.row at-args.args.out.now at-args.args.at _ at-put-answer.put-answer.ensures
+    reply_lists at_give.give.ensures at-args.args.name.now at-args.args.row at-args.args.out.now at-args.args.at _ at-put-answer.put-answer.ensures
 
 pub list-base-spec : {M : Type 1} → statement M
 list-base-spec =

@@ -1,12 +1,12 @@
 -- `replies::put_answer` meets its contract, by the answer. Assumes nothing.
 use native.Mathlib.Omega.{arith}
-use Rattle.lines.proofs.LaidLaws.{lays-past, lays-only}
+use Rattle.lines.proofs.LaidLaws.{lays_past, lays_only}
 use borrow.Author.Rules.{rules}
 use Rattle.replies.proofs.put_answer.Statement.{statement}
 use Rattle.replies.proofs.put_answer.Tie as tie
 
 returns : tie.Need-returns
-returns c = lays-past _ _ _ (omega arith)
+returns c = lays_past _ _ _ (omega arith)
 
 enum-known-answer : tie.Need-enum-known-answer
 enum-known-answer c = search rules
@@ -52,13 +52,13 @@ returns-3 c =
     let at-put-x = c.before.before.before in
     let at-refusal-number = at-put-x.before in
     let at-answer2 = at-refusal-number.before.before.before in
-    rw (at-answer2.answer2.given.1, c.only.ensures) (lays-only _ (omega arith) (rw at-refusal-number.refusal-number.ensures at at-put-x.put-x.ensures))
+    rw (at-answer2.answer2.given.1, c.only.ensures) (lays_only _ (omega arith) (rw at-refusal-number.refusal-number.ensures at at-put-x.put-x.ensures))
 
 same-length-3 : tie.Need-same-length-3
 same-length-3 c = c.before.before.out3.given
 
 returns-4 : tie.Need-returns-4
-returns-4 c = rw (c.before.before.before.before.before.before.answer3.given.1, c.only2.ensures) (lays-only _ (omega arith) c.before.before.before.put-end.ensures)
+returns-4 c = rw (c.before.before.before.before.before.before.answer3.given.1, c.only2.ensures) (lays_only _ (omega arith) c.before.before.before.put-end.ensures)
 
 pub put-answer-spec : {M : Type 1} → statement M
 put-answer-spec =

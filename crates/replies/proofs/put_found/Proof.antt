@@ -1,7 +1,7 @@
 -- `replies::put_found` meets its contract: one line, and the records' behind it. Assumes nothing.
 use mathlib.Core.Path.{◌∙◌}
-use Rattle.lines.proofs.Putting.{puts-inside}
-use Rattle.lines.proofs.LaidLaws.{lays_more, lays-stop}
+use Rattle.lines.proofs.Putting.{puts_inside}
+use Rattle.lines.proofs.LaidLaws.{lays_more, lays_stop}
 use borrow.Author.Rules.{rules}
 use Rattle.replies.proofs.put_found.Statement.{statement}
 use Rattle.replies.proofs.put_found.Tie as tie
@@ -17,7 +17,7 @@ put-records-requires c κs =
     let at-put = c.before.before in
     let at-put-b = at-put.before.before.before.before in
     let at_pre = at-put-b.before.before.before.before.before.before.before in
-    (puts-inside (rw at-put.put.given.1 at at-put-b.put_b.ensures), at_pre.requires.1)
+    (puts_inside (rw at-put.put.given.1 at at-put-b.put_b.ensures), at_pre.requires.1)
 
 enum_told : tie.Need-enum-told
 enum_told c = search rules
@@ -39,7 +39,7 @@ returns-2 : tie.Need-returns-2
 returns-2 c =
     let at-put-b = c.before.before.before.before in
     let at_pre = at-put-b.before.before.before.before.before.before.before in
-    lays-stop _ at_pre.requires.0 (rw c.enum_told.given.1 at at-put-b.put_b.ensures)
+    lays_stop _ at_pre.requires.0 (rw c.enum_told.given.1 at at-put-b.put_b.ensures)
 
 pub put-found-spec : {M : Type 1} → statement M
 put-found-spec =

@@ -2,7 +2,7 @@
 use Prim.Native.Nat.{◌-◌}
 use native.Mathlib.Omega.{arith}
 use Rattle.replies.specs.Source.{source}
-use Rattle.replies.proofs.Writing.{Writing, writing_start, writing-line, writing-full, writing-done}
+use Rattle.replies.proofs.Writing.{Writing, writing_start, writing_line, writing_full, writing_done}
 use borrow.Author.Rules.{rules}
 use Rattle.replies.proofs.put_records.Statement.{statement}
 use Rattle.replies.proofs.put_records.Tie as tie
@@ -52,7 +52,7 @@ returns : tie.Need-returns invariant-loop decreases-loop
 returns c =
     let at-put-record = c.before.before.before.before in
     let at-loop = at-put-record.before.before.before.before.before in
-    writing-full at-loop.loop.invariant (omega arith) (rw c.enum_told.given.1 at at-put-record.put_record.ensures)
+    writing_full at-loop.loop.invariant (omega arith) (rw c.enum_told.given.1 at at-put-record.put_record.ensures)
 
 add-i : tie.Need-overflow-add-i invariant-loop decreases-loop
 add-i c = search rules
@@ -65,13 +65,13 @@ loop-again c =
     let at-put = c.before in
     let at-put-record = at-put.before.before.before.before in
     let at-loop = at-put-record.before.before.before.before.before in
-    writing-line at-loop.loop.invariant (omega arith) (rw at-put.put.given.1 at at-put-record.put_record.ensures)
+    writing_line at-loop.loop.invariant (omega arith) (rw at-put.put.given.1 at at-put-record.put_record.ensures)
 
 same-length-2 : tie.Need-same-length-2 invariant-loop decreases-loop
 same-length-2 c = search rules
 
 returns-2 : tie.Need-returns-2 invariant-loop decreases-loop
-returns-2 c = writing-done c.before.loop.invariant (omega arith)
+returns-2 c = writing_done c.before.loop.invariant (omega arith)
 
 pub put-records-spec : {M : Type 1} → statement M
 put-records-spec =

@@ -3,7 +3,7 @@ use Prim.Native.Nat.{◌≤◌, ◌-◌}
 use mathlib.Core.Path.{◌≡◌, refl}
 use native.Mathlib.Omega.{arith}
 use lib.ListN.{take, drop}
-use Rattle.rows.proofs.Seeing.{agree-next}
+use Rattle.rows.proofs.Seeing.{agree_next}
 use borrow.Author.Rules.{rules}
 use Rattle.rows.proofs.agree.Statement.{statement}
 use Rattle.rows.proofs.agree.Tie as tie
@@ -44,7 +44,7 @@ loop-again : tie.Need-loop-preserved invariant-loop decreases-loop
 loop-again c =
     let at-loop = c.before.before.before.before in
     let at-args = at-loop.before in
-    (search rules, agree-next at-args.args.text.now at-args.args.a at-args.args.b at-loop.loop.i at-loop.loop.invariant.1 c.if1.false (omega arith) (omega arith))
+    (search rules, agree_next at-args.args.text.now at-args.args.a at-args.args.b at-loop.loop.i at-loop.loop.invariant.1 c.if1.false (omega arith) (omega arith))
 
 returns-2 : tie.Need-returns-2 invariant-loop decreases-loop
 returns-2 c = (search rules, c.before.loop.invariant.1)

@@ -1,5 +1,5 @@
 -- `rows::looked_up` meets its contract. Assumes nothing.
-use Rattle.rows.proofs.Seeing.{names-found}
+use Rattle.rows.proofs.Seeing.{names_found}
 use borrow.Author.Rules.{rules}
 use Rattle.rows.proofs.looked_up.Statement.{statement}
 use Rattle.rows.proofs.looked_up.Tie as tie
@@ -20,7 +20,7 @@ find-in-requires : tie.Need-find-in-requires
 find-in-requires c κs = search rules
 
 returns : tie.Need-returns
-returns c = names-found _ c.before.before.before.before.before.before.requires.0 _ c.find-in.ensures
+returns c = names_found _ c.before.before.before.before.before.before.requires.0 _ c.find-in.ensures
 
 pub looked-up-spec : {M : Type 1} → statement M
 looked-up-spec =

@@ -1,6 +1,6 @@
 -- `rows::name_at` meets its contract: the bytes that agree with the name seen are the start of the field. Assumes nothing.
 use native.Mathlib.Omega.{arith}
-use Rattle.rows.proofs.Seeing.{seen-to, seen_same}
+use Rattle.rows.proofs.Seeing.{seen_to, seen_same}
 use borrow.Author.Rules.{rules}
 use Rattle.rows.proofs.name_at.Statement.{statement}
 use Rattle.rows.proofs.name_at.Tie as tie
@@ -34,7 +34,7 @@ looked-up-requires c κs =
     let at-field-end = c.before in
     let at_agree = at-field-end.before in
     let at_pre = at_agree.before.before.before.before.before.before.before in
-    (seen-to at_pre.requires.2 at_pre.args.at at_agree.agree.result (omega arith) (omega arith) at_agree.agree.ensures.1 at-field-end.field-end.ensures, at_pre.requires.1)
+    (seen_to at_pre.requires.2 at_pre.args.at at_agree.agree.result (omega arith) (omega arith) at_agree.agree.ensures.1 at-field-end.field-end.ensures, at_pre.requires.1)
 
 returns : tie.Need-returns
 returns c = search rules
@@ -44,7 +44,7 @@ looked-up-requires-2 c κs =
     let at-field-end = c.before.before in
     let at_agree = at-field-end.before in
     let at_pre = at_agree.before.before.before.before.before.before.before in
-    (seen-to at_pre.requires.2 at_pre.args.at at_agree.agree.result (omega arith) (omega arith) at_agree.agree.ensures.1 at-field-end.field-end.ensures, at_pre.requires.1)
+    (seen_to at_pre.requires.2 at_pre.args.at at_agree.agree.result (omega arith) (omega arith) at_agree.agree.ensures.1 at-field-end.field-end.ensures, at_pre.requires.1)
 
 returns-2 : tie.Need-returns-2
 returns-2 c = search rules

@@ -5,11 +5,11 @@ use native.Mathlib.Omega.{arith}
 use lib.ListN.{length}
 use borrow.Author.Tests.{not-true, not-false}
 use Rattle.fields.specs.Names.{names, number_in}
-use Rattle.fields.proofs.Tables.{Filling, fill_start, fill_none, fill-pass, fill-put, fill-bad, fill-full, fill_end}
-use Rattle.rows.specs.Row.{row_of, chromOf, start_of, stopOf}
+use Rattle.fields.proofs.Tables.{Filling, fill_start, fill_none, fill_pass, fill_put, fill_bad, fill_full, fill_end}
+use Rattle.rows.specs.Row.{row_of, chrom_of, start_of, stop_of}
 use Rattle.rows.specs.Read.{Knows}
-use Rattle.rows.proofs.Seeing.{knows-none, knows-next}
-use Rattle.rows.proofs.Filled.{line-not, line-is, line-next, line-to, line-chrom, ready-second, ready-third, ready-within, rows-read, rows-refused}
+use Rattle.rows.proofs.Seeing.{knows_none, knows_next}
+use Rattle.rows.proofs.Filled.{line_not, line_is, line_next, line_to, line_chrom, ready_second, ready_third, ready_within, rows_read, rows_refused}
 use borrow.Author.Rules.{rules}
 use Rattle.rows.proofs.read_rows.Statement.{statement}
 use Rattle.rows.proofs.read_rows.Tie as tie
@@ -21,7 +21,7 @@ use Rattle.rows.proofs.unseen.Reads as unseen-reads
 use Rattle.fields.proofs.past.Reads as past-reads
 
 abbrev invariant-loop : tie.invariant-loop
-invariant-loop text list from to chrom₀ start₀ stop₀ room end seen₀ n₀ at₀ chrom start stop seen n at = Filling (row_of (number_in (names list from to))) chromOf start_of stopOf text chrom₀ start₀ stop₀ chrom start stop n at × Knows text (names list from to) seen
+invariant-loop text list from to chrom₀ start₀ stop₀ room end seen₀ n₀ at₀ chrom start stop seen n at = Filling (row_of (number_in (names list from to))) chrom_of start_of stop_of text chrom₀ start₀ stop₀ chrom start stop n at × Knows text (names list from to) seen
 
 abbrev decreases-loop : tie.decreases-loop
 decreases-loop text list from to chrom₀ start₀ stop₀ room end seen₀ n₀ at₀ chrom start stop seen n at = end - at
@@ -30,13 +30,13 @@ is-ready-requires : tie.Need-is-ready-requires invariant-loop decreases-loop
 is-ready-requires c κs = search rules
 
 returns : tie.Need-returns invariant-loop decreases-loop
-returns c = fill_none chromOf start_of stopOf _ _ _ _ (rows-refused _ _ _ _ _ _ _ (sym c.before.is-ready.ensures ∙ not-true _ c.if1.true))
+returns c = fill_none chrom_of start_of stop_of _ _ _ _ (rows_refused _ _ _ _ _ _ _ (sym c.before.is-ready.ensures ∙ not-true _ c.if1.true))
 
 unseen-requires : tie.Need-unseen-requires invariant-loop decreases-loop
-unseen-requires c κs = ready-within _ _ _ _ _ _ (sym c.before.is-ready.ensures ∙ not-false _ c.if1.false)
+unseen-requires c κs = ready_within _ _ _ _ _ _ (sym c.before.is-ready.ensures ∙ not-false _ c.if1.false)
 
 loop-holds : tie.Need-loop-init invariant-loop decreases-loop
-loop-holds c = (fill_start _ chromOf start_of stopOf _ _ _ _ (ready-second _ _ _ _ _ _ (sym c.before.before.is-ready.ensures ∙ not-false _ c.before.if1.false)) (ready-third _ _ _ _ _ _ (sym c.before.before.is-ready.ensures ∙ not-false _ c.before.if1.false)), knows-none _ _ _ c.unseen.ensures.0 c.unseen.ensures.1 c.unseen.ensures.2)
+loop-holds c = (fill_start _ chrom_of start_of stop_of _ _ _ _ (ready_second _ _ _ _ _ _ (sym c.before.before.is-ready.ensures ∙ not-false _ c.before.if1.false)) (ready_third _ _ _ _ _ _ (sym c.before.before.is-ready.ensures ∙ not-false _ c.before.if1.false)), knows_none _ _ _ c.unseen.ensures.0 c.unseen.ensures.1 c.unseen.ensures.2)
 
 past-requires : tie.Need-past-requires invariant-loop decreases-loop
 past-requires c κs = search rules
@@ -45,14 +45,14 @@ loop-less : tie.Need-loop-smaller invariant-loop decreases-loop
 loop-less c = omega (arith, c.before.past.ensures.next c.if2.true)
 
 loop-again : tie.Need-loop-preserved invariant-loop decreases-loop
-loop-again c = (fill-pass c.before.before.before.loop.invariant.0 c.before.past.ensures c.if2.true, c.before.before.before.loop.invariant.1)
+loop-again c = (fill_pass c.before.before.before.loop.invariant.0 c.before.past.ensures c.if2.true, c.before.before.before.loop.invariant.1)
 
 row-at-requires : tie.Need-row-at-requires invariant-loop decreases-loop
 row-at-requires c κs =
     let at-loop = c.before.before.before in
     let at-if1 = at-loop.before.before in
     let at-is-ready = at-if1.before in
-    (omega arith, ready-within _ _ _ _ _ _ (sym at-is-ready.is-ready.ensures ∙ not-false _ at-if1.if1.false), at-loop.loop.invariant.1)
+    (omega arith, ready_within _ _ _ _ _ _ (sym at-is-ready.is-ready.ensures ∙ not-false _ at-if1.if1.false), at-loop.loop.invariant.1)
 
 enum-known-l : tie.Need-enum-known-l invariant-loop decreases-loop
 enum-known-l c = search rules
@@ -77,7 +77,7 @@ returns-2 c =
     let at-loop = at-past.before.before in
     let at-if1 = at-loop.before.before in
     let at-is-ready = at-if1.before in
-    fill-bad at-loop.loop.invariant.0 _ (rows-read _ _ _ _ _ _ _ (sym at-is-ready.is-ready.ensures ∙ not-false _ at-if1.if1.false)) at-past.past.ensures at-if2.if2.false (line-not at-row-at.row_at.ensures c.enum_told.given.1)
+    fill_bad at-loop.loop.invariant.0 _ (rows_read _ _ _ _ _ _ _ (sym at-is-ready.is-ready.ensures ∙ not-false _ at-if1.if1.false)) at-past.past.ensures at-if2.if2.false (line_not at-row-at.row_at.ensures c.enum_told.given.1)
 
 same-length-4 : tie.Need-same-length-4 invariant-loop decreases-loop
 same-length-4 c = search rules
@@ -97,7 +97,7 @@ returns-3 c =
     let at-loop = at-past.before.before in
     let at-if1 = at-loop.before.before in
     let at-is-ready = at-if1.before in
-    fill-full at-loop.loop.invariant.0 _ (rows-read _ _ _ _ _ _ _ (sym at-is-ready.is-ready.ensures ∙ not-false _ at-if1.if1.false)) at-past.past.ensures at-if2.if2.false _ (line-is at-row-at.row_at.ensures at-l.l.given.1) c.if3.true
+    fill_full at-loop.loop.invariant.0 _ (rows_read _ _ _ _ _ _ _ (sym at-is-ready.is-ready.ensures ∙ not-false _ at-if1.if1.false)) at-past.past.ensures at-if2.if2.false _ (line_is at-row-at.row_at.ensures at-l.l.given.1) c.if3.true
 
 mul-chrom : tie.Need-overflow-mul-chrom invariant-loop decreases-loop
 mul-chrom c =
@@ -129,7 +129,7 @@ add-n c =
     omega (arith, at-good.well-formed)
 
 loop-less-2 : tie.Need-loop-smaller-2 invariant-loop decreases-loop
-loop-less-2 c = omega (arith, line-next c.before.before.before.before.row_at.ensures c.before.before.l.given.1)
+loop-less-2 c = omega (arith, line_next c.before.before.before.before.row_at.ensures c.before.before.l.given.1)
 
 loop-again-2 : tie.Need-loop-preserved-2 invariant-loop decreases-loop
 loop-again-2 c =
@@ -138,7 +138,7 @@ loop-again-2 c =
     let at-if2 = at-row-at.before in
     let at-past = at-if2.before in
     let at-loop = at-past.before.before in
-    (fill-put at-loop.loop.invariant.0 at-past.past.ensures at-if2.if2.false (line-next at-row-at.row_at.ensures at-l.l.given.1) _ (line-is at-row-at.row_at.ensures at-l.l.given.1) (omega arith), knows-next _ _ (line-to at-row-at.row_at.ensures at-l.l.given.1 (omega arith)) (line-chrom at-row-at.row_at.ensures at-l.l.given.1))
+    (fill_put at-loop.loop.invariant.0 at-past.past.ensures at-if2.if2.false (line_next at-row-at.row_at.ensures at-l.l.given.1) _ (line_is at-row-at.row_at.ensures at-l.l.given.1) (omega arith), knows_next _ _ (line_to at-row-at.row_at.ensures at-l.l.given.1 (omega arith)) (line_chrom at-row-at.row_at.ensures at-l.l.given.1))
 
 same-length-7 : tie.Need-same-length-7 invariant-loop decreases-loop
 same-length-7 c = search rules
@@ -150,7 +150,7 @@ same-length-9 : tie.Need-same-length-9 invariant-loop decreases-loop
 same-length-9 c = search rules
 
 returns-4 : tie.Need-returns-4 invariant-loop decreases-loop
-returns-4 c = fill_end c.before.loop.invariant.0 _ (rows-read _ _ _ _ _ _ _ (sym c.before.before.before.before.is-ready.ensures ∙ not-false _ c.before.before.before.if1.false)) c.loop-test.false
+returns-4 c = fill_end c.before.loop.invariant.0 _ (rows_read _ _ _ _ _ _ _ (sym c.before.before.before.before.is-ready.ensures ∙ not-false _ c.before.before.before.if1.false)) c.loop-test.false
 
 pub read-rows-spec : {M : Type 1} → statement M
 read-rows-spec =

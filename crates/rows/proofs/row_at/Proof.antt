@@ -1,6 +1,6 @@
 -- `rows::row_at` meets its contract: each way to end is a law of the line. Assumes nothing.
 use native.Mathlib.Omega.{arith}
-use Rattle.rows.proofs.Fields.{row-unnamed, row-one-none, row-one-out, row_named}
+use Rattle.rows.proofs.Fields.{row_unnamed, row_one_none, row_one_out, row_named}
 use borrow.Author.Rules.{rules}
 use Rattle.rows.proofs.row_at.Statement.{statement}
 use Rattle.rows.proofs.row_at.Tie as tie
@@ -13,10 +13,10 @@ name-at-requires : tie.Need-name-at-requires
 name-at-requires c κs = search rules
 
 returns : tie.Need-returns
-returns c = row-unnamed _ c.before.name-at.ensures.field c.if1.true
+returns c = row_unnamed _ c.before.name-at.ensures.field c.if1.true
 
 returns-2 : tie.Need-returns-2
-returns-2 c = row-one-none _ c.before.before.name-at.ensures.field c.if2.true
+returns-2 c = row_one_none _ c.before.before.name-at.ensures.field c.if2.true
 
 shared-slice-read-if3 : tie.Need-shared-slice-read-if3
 shared-slice-read-if3 c = search rules
@@ -32,7 +32,7 @@ returns-3 c =
     row_named _ _ _ at-name-at.name-at.ensures.field at-name-at.name-at.ensures.number c.start-at.ensures
 
 returns-4 : tie.Need-returns-4
-returns-4 c = row-one-out _ c.before.before.before.before.name-at.ensures.field (omega (arith, c.before.before.before.before.name-at.ensures.field.inside)) c.if3.false
+returns-4 c = row_one_out _ c.before.before.before.before.name-at.ensures.field (omega (arith, c.before.before.before.before.name-at.ensures.field.inside)) c.if3.false
 
 pub row-at-spec : {M : Type 1} → statement M
 row-at-spec =

@@ -1,7 +1,7 @@
 -- `rows::start_at` meets its contract: each way to end is a law of the line. Assumes nothing.
 use mathlib.Core.Path.{sym, ◌∙◌}
 use native.Mathlib.Omega.{arith}
-use Rattle.rows.proofs.Fields.{row-unstarted, row-two-none, row-two-out, start-to}
+use Rattle.rows.proofs.Fields.{row_unstarted, row_two_none, row_two_out, start_to}
 use borrow.Author.Rules.{rules}
 use Rattle.rows.proofs.start_at.Statement.{statement}
 use Rattle.rows.proofs.start_at.Tie as tie
@@ -27,14 +27,14 @@ returns c =
     let at_n = c.before.before in
     let at-number-at = at_n.before.before in
     let at-args = at-number-at.before.before in
-    row-two-none (λ _. at-args.args.chrom) at-args.requires (sym at-number-at.number_at.ensures ∙ at_n.n.given.1) c.if1.true
+    row_two_none (λ _. at-args.args.chrom) at-args.requires (sym at-number-at.number_at.ensures ∙ at_n.n.given.1) c.if1.true
 
 shared-slice-read-if2 : tie.Need-shared-slice-read-if2
 shared-slice-read-if2 c =
     let at_n = c.before.before.before in
     let at-number-at = at_n.before.before in
     let at-args = at-number-at.before.before in
-    let f = start-to (λ _. at-args.args.chrom) at-args.requires (sym at-number-at.number_at.ensures ∙ at_n.n.given.1) in
+    let f = start_to (λ _. at-args.args.chrom) at-args.requires (sym at-number-at.number_at.ensures ∙ at_n.n.given.1) in
     omega (arith, f.inside)
 
 stop-at-requires : tie.Need-stop-at-requires
@@ -43,7 +43,7 @@ stop-at-requires c κs =
     let at-number-at = at_n.before.before in
     let at-args = at-number-at.before.before in
     let e = sym at-number-at.number_at.ensures ∙ at_n.n.given.1 in
-    let f = start-to (λ _. at-args.args.chrom) at-args.requires e in
+    let f = start_to (λ _. at-args.args.chrom) at-args.requires e in
     (at-args.requires, e, omega (arith, f.inside), c.if2.true)
 
 returns-2 : tie.Need-returns-2
@@ -53,7 +53,7 @@ returns-3 : tie.Need-returns-3
 returns-3 c =
     let at-number-at = c.before.before in
     let at-args = at-number-at.before.before in
-    row-unstarted (λ _. at-args.args.chrom) at-args.requires (sym at-number-at.number_at.ensures ∙ c.enum_told.given.1)
+    row_unstarted (λ _. at-args.args.chrom) at-args.requires (sym at-number-at.number_at.ensures ∙ c.enum_told.given.1)
 
 returns-4 : tie.Need-returns-4
 returns-4 c =
@@ -61,8 +61,8 @@ returns-4 c =
     let at-number-at = at_n.before.before in
     let at-args = at-number-at.before.before in
     let e = sym at-number-at.number_at.ensures ∙ at_n.n.given.1 in
-    let f = start-to (λ _. at-args.args.chrom) at-args.requires e in
-    row-two-out (λ _. at-args.args.chrom) at-args.requires e (omega (arith, f.inside)) c.if2.false
+    let f = start_to (λ _. at-args.args.chrom) at-args.requires e in
+    row_two_out (λ _. at-args.args.chrom) at-args.requires e (omega (arith, f.inside)) c.if2.false
 
 pub start-at-spec : {M : Type 1} → statement M
 start-at-spec =

@@ -1,6 +1,6 @@
 -- `rows::stop_at` meets its contract: each way to end is a law of the line. Assumes nothing.
 use mathlib.Core.Path.{sym, ◌∙◌}
-use Rattle.rows.proofs.Fields.{row-unstopped, row-whole, stop-to}
+use Rattle.rows.proofs.Fields.{row_unstopped, row_whole, stop_to}
 use borrow.Author.Rules.{rules}
 use Rattle.rows.proofs.stop_at.Statement.{statement}
 use Rattle.rows.proofs.stop_at.Tie as tie
@@ -26,20 +26,20 @@ next-line-requires c κs =
     let at_n = c.before in
     let at-number-at = at_n.before.before in
     let at-args = at-number-at.before.before in
-    (stop-to (λ _. at-args.args.chrom) at-args.requires.0 at-args.requires.1 at-args.requires.2 at-args.requires.3 (sym at-number-at.number_at.ensures ∙ at_n.n.given.1)).inside
+    (stop_to (λ _. at-args.args.chrom) at-args.requires.0 at-args.requires.1 at-args.requires.2 at-args.requires.3 (sym at-number-at.number_at.ensures ∙ at_n.n.given.1)).inside
 
 returns : tie.Need-returns
 returns c =
     let at-number-at = c.before.before in
     let at-args = at-number-at.before.before in
-    row-unstopped (λ _. at-args.args.chrom) at-args.requires.0 at-args.requires.1 at-args.requires.2 at-args.requires.3 (sym at-number-at.number_at.ensures ∙ c.enum_told.given.1)
+    row_unstopped (λ _. at-args.args.chrom) at-args.requires.0 at-args.requires.1 at-args.requires.2 at-args.requires.3 (sym at-number-at.number_at.ensures ∙ c.enum_told.given.1)
 
 returns-2 : tie.Need-returns-2
 returns-2 c =
     let at_n = c.before.before in
     let at-number-at = at_n.before.before in
     let at-args = at-number-at.before.before in
-    row-whole (λ _. at-args.args.chrom) at-args.requires.0 at-args.requires.1 at-args.requires.2 at-args.requires.3 (sym at-number-at.number_at.ensures ∙ at_n.n.given.1) _ c.next-line.ensures.0
+    row_whole (λ _. at-args.args.chrom) at-args.requires.0 at-args.requires.1 at-args.requires.2 at-args.requires.3 (sym at-number-at.number_at.ensures ∙ at_n.n.given.1) _ c.next-line.ensures.0
 
 pub stop-at-spec : {M : Type 1} → statement M
 stop-at-spec =

@@ -1,5 +1,5 @@
 -- `column` meets its contract.
-use Rattle.runs.proofs.Flat.{column-of}
+use Rattle.runs.proofs.Flat.{column_of}
 use borrow.Author.Rules.{rules}
 use Rattle.runs.proofs.column.Statement.{statement}
 use Rattle.runs.proofs.column.Tie as tie
@@ -79,7 +79,7 @@ index-2-t51 c = search rules
 returns : tie.Need-returns
 returns c =
     let at-args = c.before.before.before.before.before.before.before.before in
-    column-of at-args.args.i at-args.args.t1 (search rules)
+    column_of at-args.args.i at-args.args.t1 (search rules)
 
 pub column-spec : {M : Type 1} → statement M
 column-spec =

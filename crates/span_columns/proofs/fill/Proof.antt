@@ -1,5 +1,5 @@
 -- `span_columns::fill` meets its contract: after i turns the first i places hold the value. Assumes nothing.
-use Rattle.span_columns.proofs.Writing.{over-replicate}
+use Rattle.span_columns.proofs.Writing.{over_replicate}
 use borrow.Author.Fill.{fill_none, fill_more}
 use lib.ListN.{length, drop, replicate, length-set}
 use native.Mathlib.Omega.{arith}
@@ -45,7 +45,7 @@ returns c =
     let at-loop = c.before in
     let at-args = at-loop.before in
     let e : at-loop.loop.i ≡ at-args.args.n = omega arith in
-    at-loop.loop.invariant.2 ∙ rw e (over-replicate at-args.args.n at-args.args.v at-args.args.column.now)
+    at-loop.loop.invariant.2 ∙ rw e (over_replicate at-args.args.n at-args.args.v at-args.args.column.now)
 
 pub fill_spec : {M : Type 1} → statement M
 fill_spec =

@@ -15,7 +15,7 @@ same-length-2 : tie.Need-same-length-2
 same-length-2 c = c.before.stops.given
 
 returns : tie.Need-returns
-returns c = record { starts-are = c.before.before.before.before.before.before.fill.ensures; stops-are = c.before.before.fill2.ensures }
+returns c = record { starts_are = c.before.before.before.before.before.before.fill.ensures; stops_are = c.before.before.fill2.ensures }
 
 pub fill-both-spec : {M : Type 1} → statement M
 fill-both-spec =

@@ -1,7 +1,7 @@
 -- `span_columns::put_all` meets its contract: what is left to write is what the records from row i on give. Assumes nothing.
-use Rattle.layouts.proofs.Rows.{row, rows_from, given-at, given-end}
-use Rattle.span_columns.proofs.Writing.{Filling, filling-start, filling-fits, filling_step, filling-end}
-use Rattle.layouts.specs.Given.{given, allGiven}
+use Rattle.layouts.proofs.Rows.{row, rows_from, given_at, given_end}
+use Rattle.span_columns.proofs.Writing.{Filling, filling_start, filling_fits, filling_step, filling_end}
+use Rattle.layouts.specs.Given.{given, all_given}
 use Rattle.spans.specs.Spans.{spans}
 use lib.ListN.{length}
 use Prim.Native.Nat.{◌-◌, ◌≤◌}
@@ -12,13 +12,13 @@ use Rattle.span_columns.proofs.put_all.Tie as tie
 abbrev invariant-loop : tie.invariant-loop
 invariant-loop giving base starts stops outs₀ oute₀ at₀ i₀ outs oute at i =
     (i ≤ length starts)
-    × Filling (allGiven giving base (spans starts stops)) outs₀ oute₀ outs oute at (allGiven giving base (rows_from starts stops i))
+    × Filling (all_given giving base (spans starts stops)) outs₀ oute₀ outs oute at (all_given giving base (rows_from starts stops i))
 
 abbrev decreases-loop : tie.decreases-loop
 decreases-loop giving base starts stops outs₀ oute₀ at₀ i₀ outs oute at i = length starts - i
 
 loop-holds : tie.Need-loop-init invariant-loop decreases-loop
-loop-holds c = (search rules, filling-start _ _ _)
+loop-holds c = (search rules, filling_start _ _ _)
 
 mul-t10 : tie.Need-overflow-mul-t10 invariant-loop decreases-loop
 mul-t10 c = search rules
@@ -39,8 +39,8 @@ put-pieces-requires c κs =
     let at-args = at-loop.before.before.before.before.before in
     let a = at-args.args in
     let l = at-loop.loop in
-    filling-fits _ _ _ _ _ _ (given a.giving a.base (row a.starts.now a.stops.now l.i)) _
-    (given-at a.starts.now a.stops.now l.i at-args.requires.0 at-loop-test.loop-test.true a.giving a.base) l.invariant.1 at-args.requires.1
+    filling_fits _ _ _ _ _ _ (given a.giving a.base (row a.starts.now a.stops.now l.i)) _
+    (given_at a.starts.now a.stops.now l.i at-args.requires.0 at-loop-test.loop-test.true a.giving a.base) l.invariant.1 at-args.requires.1
 
 add-i : tie.Need-overflow-add-i invariant-loop decreases-loop
 add-i c = search rules
@@ -58,7 +58,7 @@ loop-again c =
     let l = at-loop.loop in (
       search rules,
       filling_step _ _ _ _ _ _ (given a.giving a.base (row a.starts.now a.stops.now l.i)) _
-          (given-at a.starts.now a.stops.now l.i at-args.requires.0 at-loop-test.loop-test.true a.giving a.base) l.invariant.1 at-put-pieces.put-pieces.ensures,
+          (given_at a.starts.now a.stops.now l.i at-args.requires.0 at-loop-test.loop-test.true a.giving a.base) l.invariant.1 at-put-pieces.put-pieces.ensures,
     )
 
 same_length : tie.Need-same-length invariant-loop decreases-loop
@@ -73,7 +73,7 @@ returns c =
     let at-args = at-loop.before.before.before.before.before in
     let a = at-args.args in
     let l = at-loop.loop in
-    filling-end _ _ _ _ _ _ (given-end a.starts.now a.stops.now l.i at-args.requires.0 c.loop-test.false a.giving a.base) l.invariant.1
+    filling_end _ _ _ _ _ _ (given_end a.starts.now a.stops.now l.i at-args.requires.0 c.loop-test.false a.giving a.base) l.invariant.1
 
 pub put-all-spec : {M : Type 1} → statement M
 put-all-spec =

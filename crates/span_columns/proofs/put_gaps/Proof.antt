@@ -1,8 +1,8 @@
 -- `span_columns::put_gaps` meets its contract: what is left to write are the gaps of the walk from here on. Assumes nothing.
 use Rattle.layouts.proofs.Rows.{row, rows_from, walk_at, walk_end}
-use Rattle.span_columns.proofs.Writing.{Filling, filling-start, filling-fits, filling_step, filling-end}
+use Rattle.span_columns.proofs.Writing.{Filling, filling_start, filling_fits, filling_step, filling_end}
 use Rattle.layouts.specs.Fragments.{walk}
-use Rattle.spans.specs.Turn.{gapEnd}
+use Rattle.spans.specs.Turn.{gap_end}
 use Rattle.spans.specs.Spans.{spans, stretch}
 use mathlib.Core.List.{[]}
 use lib.ListN.{length}
@@ -20,7 +20,7 @@ abbrev decreases-loop : tie.decreases-loop
 decreases-loop starts stops outs₀ oute₀ end place₀ at₀ i₀ outs oute place at i = length starts - i
 
 loop-holds : tie.Need-loop-init invariant-loop decreases-loop
-loop-holds c = (search rules, filling-start _ _ _)
+loop-holds c = (search rules, filling_start _ _ _)
 
 mul-put-stretch : tie.Need-overflow-mul-put-stretch invariant-loop decreases-loop
 mul-put-stretch c = search rules
@@ -45,7 +45,7 @@ put-stretch-requires c κs =
     let at-args = at-loop.before.before.before.before.before in
     let a = at-args.args in
     let l = at-loop.loop in
-    rw at-gap-end.gap-end.ensures (filling-fits _ _ _ _ _ _ (stretch l.place (gapEnd l.place (row a.starts.now a.stops.now l.i))) _
+    rw at-gap-end.gap-end.ensures (filling_fits _ _ _ _ _ _ (stretch l.place (gap_end l.place (row a.starts.now a.stops.now l.i))) _
     (walk_at a.starts.now a.stops.now l.i at-args.requires.0 at-loop-test.loop-test.true l.place a.base.stop) l.invariant.1 at-args.requires.1)
 
 next-place-requires : tie.Need-next-place-requires invariant-loop decreases-loop
@@ -67,7 +67,7 @@ loop-again c =
     let a = at-args.args in
     let l = at-loop.loop in (
       search rules,
-      rw c.next_place.ensures (filling_step _ _ _ _ _ _ (stretch l.place (gapEnd l.place (row a.starts.now a.stops.now l.i))) _
+      rw c.next_place.ensures (filling_step _ _ _ _ _ _ (stretch l.place (gap_end l.place (row a.starts.now a.stops.now l.i))) _
           (walk_at a.starts.now a.stops.now l.i at-args.requires.0 at-loop-test.loop-test.true l.place a.base.stop) l.invariant.1
           (rw at-gap-end.gap-end.ensures at at-put-stretch.put-stretch.ensures)),
     )
@@ -79,7 +79,7 @@ put-stretch-requires-2 c κs =
     let at-args = at-loop.before.before.before.before.before in
     let a = at-args.args in
     let l = at-loop.loop in
-    filling-fits _ _ _ _ _ _ (stretch l.place a.base.stop) []
+    filling_fits _ _ _ _ _ _ (stretch l.place a.base.stop) []
     (walk_end a.starts.now a.stops.now l.i at-args.requires.0 at-loop-test.loop-test.false l.place a.base.stop) l.invariant.1 at-args.requires.1
 
 same_length : tie.Need-same-length invariant-loop decreases-loop
@@ -96,7 +96,7 @@ returns c =
     let at-args = at-loop.before.before.before.before.before in
     let a = at-args.args in
     let l = at-loop.loop in
-    filling-end _ _ _ _ _ _ refl (filling_step _ _ _ _ _ _ (stretch l.place a.base.stop) []
+    filling_end _ _ _ _ _ _ refl (filling_step _ _ _ _ _ _ (stretch l.place a.base.stop) []
     (walk_end a.starts.now a.stops.now l.i at-args.requires.0 at-loop-test.loop-test.false l.place a.base.stop) l.invariant.1 at-put-stretch2.put-stretch2.ensures)
 
 pub put-gaps-spec : {M : Type 1} → statement M

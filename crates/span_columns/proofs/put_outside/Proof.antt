@@ -1,7 +1,7 @@
 -- `span_columns::put_outside` meets its contract: two stretches, one behind the other. Assumes nothing.
 use mathlib.Core.Path.{◌∙◌}
 use Rattle.spans.specs.Spans.{before, after}
-use Rattle.span_columns.proofs.Writing.{fits-first, fits-second, puts-both}
+use Rattle.span_columns.proofs.Writing.{fits_first, fits_second, puts_both}
 use Rattle.span_columns.proofs.put_outside.Statement.{statement}
 use Rattle.span_columns.proofs.put_outside.Tie as tie
 
@@ -16,7 +16,7 @@ put-stretch-requires c κs =
     let at-before-end = c.before.before.before in
     let at-args = at-before-end.before.before.before in
     let a = at-args.args in
-    rw at-before-end.before-end.ensures (fits-first (before a.base a.r) (after a.base a.r) _ _ _ at-args.requires)
+    rw at-before-end.before-end.ensures (fits_first (before a.base a.r) (after a.base a.r) _ _ _ at-args.requires)
 
 put-stretch-requires-2 : tie.Need-put-stretch-requires-2
 put-stretch-requires-2 c κs =
@@ -25,7 +25,7 @@ put-stretch-requires-2 c κs =
     let at-before-end = at-after-begin.before in
     let at-args = at-before-end.before.before.before in
     let a = at-args.args in
-    rw at-after-begin.after-begin.ensures (fits-second (before a.base a.r) (after a.base a.r) _ _ _ (rw at-before-end.before-end.ensures at at-put-stretch.put-stretch.ensures) at-args.requires)
+    rw at-after-begin.after-begin.ensures (fits_second (before a.base a.r) (after a.base a.r) _ _ _ (rw at-before-end.before-end.ensures at at-put-stretch.put-stretch.ensures) at-args.requires)
 
 same_length : tie.Need-same-length
 same_length c =
@@ -44,7 +44,7 @@ returns c =
     let at-before-end = at-after-begin.before in
     let at-args = at-before-end.before.before.before in
     let a = at-args.args in
-    puts-both (before a.base a.r) (after a.base a.r) _ _ _ (rw at-before-end.before-end.ensures at at-put-stretch.put-stretch.ensures)
+    puts_both (before a.base a.r) (after a.base a.r) _ _ _ (rw at-before-end.before-end.ensures at at-put-stretch.put-stretch.ensures)
     (rw at-after-begin.after-begin.ensures at at-put-stretch2.put-stretch2.ensures)
 
 pub put-outside-spec : {M : Type 1} → statement M

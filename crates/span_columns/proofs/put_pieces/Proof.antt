@@ -15,7 +15,7 @@ put-span-requires : tie.Need-put-span-requires
 put-span-requires c κs =
     let at-enum-told2 = c.before.before in
     let at_pre = at-enum-told2.before.before.before.before in
-    omega (arith, (rw at-enum-told2.enum-told2.given.1 at at_pre.requires).starts_fit, (rw at-enum-told2.enum-told2.given.1 at at_pre.requires).stops-fit)
+    omega (arith, (rw at-enum-told2.enum-told2.given.1 at at_pre.requires).starts_fit, (rw at-enum-told2.enum-told2.given.1 at at_pre.requires).stops_fit)
 
 enum-told-3 : tie.Need-enum-told-3
 enum-told-3 c = search rules
@@ -27,7 +27,7 @@ put-span-requires-2 : tie.Need-put-span-requires-2
 put-span-requires-2 c κs =
     let at-enum-told3 = c.before.before.before in
     let at_pre = at-enum-told3.before.before.before.before in
-    omega (arith, (rw at-enum-told3.enum-told3.given.1 at at_pre.requires).starts_fit, (rw at-enum-told3.enum-told3.given.1 at at_pre.requires).stops-fit)
+    omega (arith, (rw at-enum-told3.enum-told3.given.1 at at_pre.requires).starts_fit, (rw at-enum-told3.enum-told3.given.1 at at_pre.requires).stops_fit)
 
 enum-told-4 : tie.Need-enum-told-4
 enum-told-4 c = search rules

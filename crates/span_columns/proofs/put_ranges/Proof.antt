@@ -1,8 +1,8 @@
 -- `span_columns::put_ranges` meets its contract: what is left to write are the ranges of the records from row i on. Assumes nothing.
 use mathlib.Core.List.{[], ◌∷◌}
-use Rattle.layouts.proofs.Rows.{row, rows_from, owned_at, owned-end}
-use Rattle.span_columns.proofs.Writing.{Filling, filling-start, filling_step, filling-end}
-use Rattle.spans.proofs.Columns.{length-spans}
+use Rattle.layouts.proofs.Rows.{row, rows_from, owned_at, owned_end}
+use Rattle.span_columns.proofs.Writing.{Filling, filling_start, filling_step, filling_end}
+use Rattle.spans.proofs.Columns.{length_spans}
 use Rattle.layouts.specs.Layout.{owned}
 use Rattle.layouts.specs.Given.{given}
 use Rattle.spans.specs.Spans.{span, spans}
@@ -22,7 +22,7 @@ abbrev decreases-loop : tie.decreases-loop
 decreases-loop giving base starts stops from₀ to₀ at₀ i₀ from to at i = length starts - i
 
 loop-holds : tie.Need-loop-init invariant-loop decreases-loop
-loop-holds c = (search rules, search rules, filling-start _ _ _)
+loop-holds c = (search rules, search rules, filling_start _ _ _)
 
 mul-t11 : tie.Need-overflow-mul-t11 invariant-loop decreases-loop
 mul-t11 c = search rules
@@ -49,7 +49,7 @@ put-span-requires c κs =
     let a = at-args.args in
     let l = at-loop.loop in
     let r = at-args.requires.1 in
-    omega (arith, length-spans a.starts.now a.stops.now at-args.requires.0, r.starts_fit, r.stops-fit, l.invariant.2.long-starts, l.invariant.2.long-stops)
+    omega (arith, length_spans a.starts.now a.stops.now at-args.requires.0, r.starts_fit, r.stops_fit, l.invariant.2.long_starts, l.invariant.2.long_stops)
 
 loop-less : tie.Need-loop-smaller invariant-loop decreases-loop
 loop-less c =
@@ -89,7 +89,7 @@ returns c =
     let at-args = at-loop.before.before.before.before.before in
     let a = at-args.args in
     let l = at-loop.loop in
-    filling-end _ _ _ _ _ _ (owned-end a.starts.now a.stops.now l.i at-args.requires.0 c.loop-test.false (given a.giving a.base) l.at) l.invariant.2
+    filling_end _ _ _ _ _ _ (owned_end a.starts.now a.stops.now l.i at-args.requires.0 c.loop-test.false (given a.giving a.base) l.at) l.invariant.2
 
 pub put-ranges-spec : {M : Type 1} → statement M
 put-ranges-spec =

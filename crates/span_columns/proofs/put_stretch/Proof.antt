@@ -9,7 +9,7 @@ put-span-requires : tie.Need-put-span-requires
 put-span-requires c κs =
     let at-if1 = c.before.before in
     let at_pre = at-if1.before.before.before in
-    omega (arith, rw (lt-ltb _ _ at-if1.if1.true) at at_pre.requires.starts_fit, rw (lt-ltb _ _ at-if1.if1.true) at at_pre.requires.stops-fit)
+    omega (arith, rw (lt-ltb _ _ at-if1.if1.true) at at_pre.requires.starts_fit, rw (lt-ltb _ _ at-if1.if1.true) at at_pre.requires.stops_fit)
 
 same_length : tie.Need-same-length
 same_length c = c.before.before.before.starts.given

@@ -3,10 +3,10 @@ use mathlib.Core.Path.{◌≡◌, ap, ◌∙◌}
 use borrow.Author.Rules.{rules}
 use Rattle.rules.specs.declared.Stage.{Stage}
 use Rattle.rules.specs.Bases.{judge}
-use Rattle.heads.specs.View.{Cols, Heads, cols, headsBy}
-use Rattle.admit.specs.Gates.{lengthsOf, last_of, judgedOf}
+use Rattle.heads.specs.View.{Cols, Heads, cols, heads_by}
+use Rattle.admit.specs.Gates.{lengths_of, last_of, judged_of}
 use Rattle.pulls.specs.Pulls.{Lent, lent}
-use Rattle.step.proofs.Stepping.{opens_by, refuses, loadable, faults, may-settle, steps-so}
+use Rattle.step.proofs.Stepping.{opens_by, refuses, loadable, faults, may_settle, steps_so}
 use Rattle.step.proofs.step.Statement.{statement}
 use Rattle.step.proofs.step.Tie as tie
 
@@ -15,7 +15,7 @@ abbrev sc : tie.Start → Cols
 sc c = cols c.args.chrom.now c.args.start.now c.args.stop.now
 
 abbrev hs : tie.Start → Heads
-hs c = headsBy c.args.fours.now c.args.ended.now c.args.next.now c.args.from.now c.args.to.now c.args.at.fixed.streams
+hs c = heads_by c.args.fours.now c.args.ended.now c.args.next.now c.args.from.now c.args.to.now c.args.at.fixed.streams
 
 abbrev le : tie.Start → Lent
 le c = lent c.args.queue.now c.args.answers.now
@@ -35,7 +35,7 @@ returns c =
     let at-judge = at-gate.before.before in
     let at-stage-in = at-judge.before in
     let at-args = at-stage-in.before.before.before.before.before.before.before.before in
-    refuses (sc (at-args)) at-args.args.lengths.now (hs (at-args)) at-args.args.at at-args.args.b (le (at-args)) at-args.requires at-judge.judge.result (at-judge.judge.ensures ∙ ap (λ (t : Stage). judgedOf (judge (lengthsOf at-args.args.lengths.now) (last_of t) at-args.args.b)) at-stage-in.stage-in.ensures) _ at-gate.gate.given.1
+    refuses (sc (at-args)) at-args.args.lengths.now (hs (at-args)) at-args.args.at at-args.args.b (le (at-args)) at-args.requires at-judge.judge.result (at-judge.judge.ensures ∙ ap (λ (t : Stage). judged_of (judge (lengths_of at-args.args.lengths.now) (last_of t) at-args.args.b)) at-stage-in.stage-in.ensures) _ at-gate.gate.given.1
 
 enum_told : tie.Need-enum-told
 enum_told c = search rules
@@ -46,7 +46,7 @@ opened-requires c κs =
     let at-judge = at-enum-told.before.before in
     let at-stage-in = at-judge.before in
     let at-args = at-stage-in.before.before.before.before.before.before.before.before in
-    loadable (sc (at-args)) at-args.args.lengths.now (hs (at-args)) at-args.args.at at-args.args.b (le (at-args)) at-args.requires at-judge.judge.result (at-judge.judge.ensures ∙ ap (λ (t : Stage). judgedOf (judge (lengthsOf at-args.args.lengths.now) (last_of t) at-args.args.b)) at-stage-in.stage-in.ensures) at-enum-told.enum_told.given.1
+    loadable (sc (at-args)) at-args.args.lengths.now (hs (at-args)) at-args.args.at at-args.args.b (le (at-args)) at-args.requires at-judge.judge.result (at-judge.judge.ensures ∙ ap (λ (t : Stage). judged_of (judge (lengths_of at-args.args.lengths.now) (last_of t) at-args.args.b)) at-stage-in.stage-in.ensures) at-enum-told.enum_told.given.1
 
 enum-known-w : tie.Need-enum-known-w
 enum-known-w c = search rules
@@ -59,7 +59,7 @@ returns-2 c =
     let at-judge = at-enum-told.before.before in
     let at-stage-in = at-judge.before in
     let at-args = at-stage-in.before.before.before.before.before.before.before.before in
-    faults (sc (at-args)) at-args.args.lengths.now (hs (at-args)) at-args.args.at at-args.args.b (le (at-args)) at-args.requires at-judge.judge.result (at-judge.judge.ensures ∙ ap (λ (t : Stage). judgedOf (judge (lengthsOf at-args.args.lengths.now) (last_of t) at-args.args.b)) at-stage-in.stage-in.ensures) at-enum-told.enum_told.given.1 at-opened.opened.result _ (opens_by at-opened.opened.ensures at-stage-in.stage-in.ensures) _ at-w.w.given.1
+    faults (sc (at-args)) at-args.args.lengths.now (hs (at-args)) at-args.args.at at-args.args.b (le (at-args)) at-args.requires at-judge.judge.result (at-judge.judge.ensures ∙ ap (λ (t : Stage). judged_of (judge (lengths_of at-args.args.lengths.now) (last_of t) at-args.args.b)) at-stage-in.stage-in.ensures) at-enum-told.enum_told.given.1 at-opened.opened.result _ (opens_by at-opened.opened.ensures at-stage-in.stage-in.ensures) _ at-w.w.given.1
 
 enum-told-2 : tie.Need-enum-told-2
 enum-told-2 c = search rules
@@ -72,7 +72,7 @@ settle-requires c κs =
     let at-judge = at-enum-told.before.before in
     let at-stage-in = at-judge.before in
     let at-args = at-stage-in.before.before.before.before.before.before.before.before in
-    may-settle (sc (at-args)) at-args.args.lengths.now (hs (at-args)) at-args.args.at at-args.args.b (le (at-args)) at-args.requires at-judge.judge.result (at-judge.judge.ensures ∙ ap (λ (t : Stage). judgedOf (judge (lengthsOf at-args.args.lengths.now) (last_of t) at-args.args.b)) at-stage-in.stage-in.ensures) at-enum-told.enum_told.given.1 at-opened.opened.result _ (opens_by at-opened.opened.ensures at-stage-in.stage-in.ensures) at-enum-told2.enum-told2.given.1
+    may_settle (sc (at-args)) at-args.args.lengths.now (hs (at-args)) at-args.args.at at-args.args.b (le (at-args)) at-args.requires at-judge.judge.result (at-judge.judge.ensures ∙ ap (λ (t : Stage). judged_of (judge (lengths_of at-args.args.lengths.now) (last_of t) at-args.args.b)) at-stage-in.stage-in.ensures) at-enum-told.enum_told.given.1 at-opened.opened.result _ (opens_by at-opened.opened.ensures at-stage-in.stage-in.ensures) at-enum-told2.enum-told2.given.1
 
 same_length : tie.Need-same-length
 same_length c = search rules
@@ -89,7 +89,7 @@ returns-3 c =
     let at-judge = at-enum-told.before.before in
     let at-stage-in = at-judge.before in
     let at-args = at-stage-in.before.before.before.before.before.before.before.before in
-    steps-so (sc (at-args)) at-args.args.lengths.now (hs (at-args)) at-args.args.at at-args.args.b (le (at-args)) at-args.requires at-judge.judge.result (at-judge.judge.ensures ∙ ap (λ (t : Stage). judgedOf (judge (lengthsOf at-args.args.lengths.now) (last_of t) at-args.args.b)) at-stage-in.stage-in.ensures) at-enum-told.enum_told.given.1 at-opened.opened.result _ (opens_by at-opened.opened.ensures at-stage-in.stage-in.ensures) at-enum-told2.enum-told2.given.1 _ _ _ at-settle.settle.ensures
+    steps_so (sc (at-args)) at-args.args.lengths.now (hs (at-args)) at-args.args.at at-args.args.b (le (at-args)) at-args.requires at-judge.judge.result (at-judge.judge.ensures ∙ ap (λ (t : Stage). judged_of (judge (lengths_of at-args.args.lengths.now) (last_of t) at-args.args.b)) at-stage-in.stage-in.ensures) at-enum-told.enum_told.given.1 at-opened.opened.result _ (opens_by at-opened.opened.ensures at-stage-in.stage-in.ensures) at-enum-told2.enum-told2.given.1 _ _ _ at-settle.settle.ensures
 
 pub step_spec : {M : Type 1} → statement M
 step_spec =

@@ -2,7 +2,7 @@
 use mathlib.Core.Path.{refl}
 use native.Mathlib.Omega.{arith}
 use borrow.Author.Rules.{rules}
-use Rattle.sweep.proofs.Single.{single-found, single-other}
+use Rattle.sweep.proofs.Single.{single_found, single_other}
 use Rattle.sweep.proofs.give.Statement.{statement}
 use Rattle.sweep.proofs.give.Tie as tie
 
@@ -30,7 +30,7 @@ same-length-2 c = search rules
 returns : tie.Need-returns
 returns c =
     let at-give-all = c.before.before.before.before.before.before in
-    single-found refl (record { starts = refl; stops = refl; counts = omega arith }) at-give-all.give_all.ensures c.if1.true
+    single_found refl (record { starts = refl; stops = refl; counts = omega arith }) at-give-all.give_all.ensures c.if1.true
 
 same-length-3 : tie.Need-same-length-3
 same-length-3 c = search rules
@@ -41,7 +41,7 @@ same-length-4 c = search rules
 returns-2 : tie.Need-returns-2
 returns-2 c =
     let at-give-all = c.before.before.before.before.before.before in
-    single-other refl (record { starts = refl; stops = refl; counts = omega arith }) at-give-all.give_all.ensures c.if1.false
+    single_other refl (record { starts = refl; stops = refl; counts = omega arith }) at-give-all.give_all.ensures c.if1.false
 
 pub give_spec : {M : Type 1} → statement M
 give_spec =

@@ -1,7 +1,7 @@
 -- `base_step`: clearing leaves what a scan asks, and a scan writes no more rows than wait.
 use native.Mathlib.Omega.{arith}
 use borrow.Author.Rules.{rules}
-use Rattle.queue.proofs.Calls.{cleared-live, scan-few}
+use Rattle.queue.proofs.Calls.{cleared_live, scan_few}
 use Rattle.tests_queue.proofs.base_step.Statement.{statement}
 use Rattle.tests_queue.proofs.base_step.Tie as tie
 
@@ -15,14 +15,14 @@ scan-requires : tie.Need-scan-requires
 scan-requires c κs =
     let at_clear = c.before.before.before in
     let at-args = at_clear.before.before.before in
-    record { fair = at_clear.clear.ensures.fair; cleared = cleared-live at-args.args.b at_clear.clear.ensures; answers = omega (arith, at_clear.clear.ensures.room, at-args.requires.answers) }
+    record { fair = at_clear.clear.ensures.fair; cleared = cleared_live at-args.args.b at_clear.clear.ensures; answers = omega (arith, at_clear.clear.ensures.room, at-args.requires.answers) }
 
 show-hits-requires : tie.Need-show-hits-requires
 show-hits-requires c κs =
     let at-scan = c.before.before in
     let at_clear = at-scan.before.before.before.before in
     let at-args = at_clear.before.before.before in
-    omega (arith, scan-few at_clear.clear.result _ at-args.args.b at-scan.scan.ensures, at_clear.clear.ensures.fair.sound.fits, at_clear.clear.ensures.room, at-args.requires.answers, at-scan.scan.auto)
+    omega (arith, scan_few at_clear.clear.result _ at-args.args.b at-scan.scan.ensures, at_clear.clear.ensures.fair.sound.fits, at_clear.clear.ensures.room, at-args.requires.answers, at-scan.scan.auto)
 
 front-requires : tie.Need-front-requires
 front-requires c κs = search rules

@@ -4,7 +4,7 @@ use Prim.Native.Nat.{◌+◌, ◌-◌, ◌≤◌}
 use native.Mathlib.Omega.{arith}
 use borrow.Author.Rules.{rules}
 use lib.ListN.{length}
-use Rattle.queue.proofs.Calls.{fresh-fair}
+use Rattle.queue.proofs.Calls.{fresh_fair}
 use Rattle.tests_queue.specs.Ready.{Ready}
 use Rattle.tests_queue.proofs.drive.Statement.{statement}
 use Rattle.tests_queue.proofs.drive.Tie as tie
@@ -22,7 +22,7 @@ empty-requires : tie.Need-empty-requires invariant-loop decreases-loop
 empty-requires c κs = tt
 
 loop-holds : tie.Need-loop-init invariant-loop decreases-loop
-loop-holds c = rw c.empty.ensures (omega arith, record { fair = fresh-fair _ _ _ c.before.before.requires.0 c.before.before.requires.1 refl; answers = omega arith }, refl, refl)
+loop-holds c = rw c.empty.ensures (omega arith, record { fair = fresh_fair _ _ _ c.before.before.requires.0 c.before.before.requires.1 refl; answers = omega arith }, refl, refl)
 
 mul-step : tie.Need-overflow-mul-step invariant-loop decreases-loop
 mul-step c = search rules

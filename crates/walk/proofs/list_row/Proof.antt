@@ -1,6 +1,6 @@
 -- `walk::list_row` meets its contract: the base and its chromosome's name are read, and the base is given. Assumes nothing.
 use lib.ListN.{get_or}
-use Rattle.walk.proofs.NameLaws.{name-apart, name-inside, name-listed}
+use Rattle.walk.proofs.NameLaws.{name_apart, name_inside, name_listed}
 use borrow.Author.Rules.{rules}
 use Rattle.walk.proofs.list_row.Statement.{statement}
 use Rattle.walk.proofs.list_row.Tie as tie
@@ -33,19 +33,19 @@ sub-list-base : tie.Need-overflow-sub-list-base
 sub-list-base c =
     let at-place-at = c.before in
     let at_pre = at-place-at.before.before.before.before.before.before.before.before.before.before.before.before.before.before.before in
-    name-apart at_pre.requires (get_or at_pre.args.bchrom.now at_pre.args.i 0) at-place-at.place_at.ensures c.place-at2.ensures
+    name_apart at_pre.requires (get_or at_pre.args.bchrom.now at_pre.args.i 0) at-place-at.place_at.ensures c.place-at2.ensures
 
 part-list-base-start : tie.Need-slice-bounds-list-base-start
 part-list-base-start c =
     let at-place-at = c.before in
     let at_pre = at-place-at.before.before.before.before.before.before.before.before.before.before.before.before.before.before.before in
-    name-apart at_pre.requires (get_or at_pre.args.bchrom.now at_pre.args.i 0) at-place-at.place_at.ensures c.place-at2.ensures
+    name_apart at_pre.requires (get_or at_pre.args.bchrom.now at_pre.args.i 0) at-place-at.place_at.ensures c.place-at2.ensures
 
 part-list-base-end : tie.Need-slice-bounds-list-base-end
 part-list-base-end c =
     let at-place-at = c.before in
     let at_pre = at-place-at.before.before.before.before.before.before.before.before.before.before.before.before.before.before.before in
-    name-inside at_pre.requires (get_or at_pre.args.bchrom.now at_pre.args.i 0) at-place-at.place_at.ensures c.place-at2.ensures
+    name_inside at_pre.requires (get_or at_pre.args.bchrom.now at_pre.args.i 0) at-place-at.place_at.ensures c.place-at2.ensures
 
 list-base-requires : tie.Need-list-base-requires
 list-base-requires c κs = search rules
@@ -65,7 +65,7 @@ returns c =
     let at-place-at2 = at-list-base.before.before.before.before.before in
     let at-place-at = at-place-at2.before in
     let at_pre = at-place-at.before.before.before.before.before.before.before.before.before.before.before.before.before.before.before in
-    name-listed at_pre.requires (get_or at_pre.args.bchrom.now at_pre.args.i 0) at-place-at.place_at.ensures at-place-at2.place-at2.ensures at-list-base.list-base.ensures
+    name_listed at_pre.requires (get_or at_pre.args.bchrom.now at_pre.args.i 0) at-place-at.place_at.ensures at-place-at2.place-at2.ensures at-list-base.list-base.ensures
 
 pub list-row-spec : {M : Type 1} → statement M
 list-row-spec =

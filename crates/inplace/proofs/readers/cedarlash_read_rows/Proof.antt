@@ -1,5 +1,5 @@
 -- `cedarlash_read_rows` meets its contract.
-use Rattle.inplace.proofs.CallLaws.{tallies-so}
+use Rattle.inplace.proofs.CallLaws.{tallies_so}
 use Rattle.inplace.proofs.readers.cedarlash_read_rows.Statement.{statement}
 use Rattle.inplace.proofs.readers.cedarlash_read_rows.Tie as tie
 
@@ -19,7 +19,7 @@ same-length-3 : tie.Need-same-length-3
 same-length-3 c = c.before.before.stop.given
 
 returns : tie.Need-returns
-returns c = tallies-so c.before.before.before.before.before.before.before.read-rows.ensures c.tally-of.ensures
+returns c = tallies_so c.before.before.before.before.before.before.before.read-rows.ensures c.tally-of.ensures
 
 pub cedarlash-read-rows-spec : {M : Type 1} → statement M
 cedarlash-read-rows-spec =

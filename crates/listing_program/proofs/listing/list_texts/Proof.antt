@@ -1,5 +1,5 @@
 -- `listing_program::listing::list_texts` meets its contract: nothing is wrong where the verdict says so. Assumes nothing.
-use Rattle.walk.proofs.FineLaws.{fine-read}
+use Rattle.walk.proofs.FineLaws.{fine_read}
 use borrow.Author.Rules.{rules}
 use Rattle.listing_program.proofs.listing.list_texts.Statement.{statement}
 use Rattle.listing_program.proofs.listing.list_texts.Tie as tie
@@ -73,7 +73,7 @@ list-read-requires : tie.Need-list-read-requires
 list-read-requires c κs =
     let at-enum-told = c.before.before.before.before.before.before.before.before.before in
     let at-read-texts = at-enum-told.before.before.before.before.before.before.before.before.before.before.before in
-    fine-read at-read-texts.read-texts.ensures at-enum-told.enum_told.given.1
+    fine_read at-read-texts.read-texts.ensures at-enum-told.enum_told.given.1
 
 enum-known-verdict : tie.Need-enum-known-verdict
 enum-known-verdict c = search rules

@@ -1,5 +1,5 @@
 -- `Ring::clear`: by the chromosome; then past the dead ones, up to the first dead one, and the rest.
-use Rattle.queue.proofs.Clearing.{clears-other, packable-led, clears-own}
+use Rattle.queue.proofs.Clearing.{clears_other, packable_led, clears_own}
 use borrow.Author.Rules.{rules}
 use Rattle.queue.proofs.Ring.clear.Statement.{statement}
 use Rattle.queue.proofs.Ring.clear.Tie as tie
@@ -11,7 +11,7 @@ returns : tie.Need-returns
 returns c =
     let at-if1 = c.before in
     let at-args = at-if1.before.before.before.before.before in
-    rw c.empty.ensures (clears-other at-args.args.self _ at-args.args.b at-args.requires at-if1.if1.true)
+    rw c.empty.ensures (clears_other at-args.args.self _ at-args.args.b at-args.requires at-if1.if1.true)
 
 skip-requires : tie.Need-skip-requires
 skip-requires c κs = search rules
@@ -24,7 +24,7 @@ pack-requires c κs =
     let at-live-ahead = c.before in
     let at-skip = at-live-ahead.before.before in
     let at-args = at-skip.before.before.before.before.before.before.before in
-    packable-led at-args.args.self _ at-args.args.b at-args.requires _ at-skip.skip.ensures _ at-live-ahead.live-ahead.ensures
+    packable_led at-args.args.self _ at-args.args.b at-args.requires _ at-skip.skip.ensures _ at-live-ahead.live-ahead.ensures
 
 same_length : tie.Need-same-length
 same_length c = search rules
@@ -35,7 +35,7 @@ returns-2 c =
     let at-skip = at-pack.before.before.before.before in
     let at-if1 = at-skip.before.before in
     let at-args = at-if1.before.before.before.before.before in
-    clears-own at-args.args.self _ at-args.args.b at-args.requires _ at-skip.skip.ensures _ _ at-if1.if1.false at-pack.pack.ensures
+    clears_own at-args.args.self _ at-args.args.b at-args.requires _ at-skip.skip.ensures _ _ at-if1.if1.false at-pack.pack.ensures
 
 pub clear_spec : {M : Type 1} → statement M
 clear_spec =

@@ -4,7 +4,7 @@ use Prim.Native.Nat.{◌-◌}
 use native.Mathlib.Omega.{arith}
 use borrow.Author.Rules.{rules}
 use borrow.Author.Tests.{not-true, not-false}
-use Rattle.queue.proofs.Clearing.{Leading, leading-next, leading-stop, leading_end}
+use Rattle.queue.proofs.Clearing.{Leading, leading_next, leading_stop, leading_end}
 use Rattle.queue.proofs.Ring.live_ahead.Statement.{statement}
 use Rattle.queue.proofs.Ring.live_ahead.Tie as tie
 
@@ -39,7 +39,7 @@ returns c =
     let at-loop-test = at-place-of.before in
     let at-loop = at-loop-test.before in
     let at-args = at-loop.before in
-    leading-stop at-args.args.self _ _ _ at-loop.loop.invariant _ at-loop-test.loop-test.true at-place-of.place_of.ensures.0 (sym at-lasts.lasts.ensures ∙ not-true _ c.if1.true)
+    leading_stop at-args.args.self _ _ _ at-loop.loop.invariant _ at-loop-test.loop-test.true at-place-of.place_of.ensures.0 (sym at-lasts.lasts.ensures ∙ not-true _ c.if1.true)
 
 add-k : tie.Need-overflow-add-k invariant-loop decreases-loop
 add-k c = search rules
@@ -54,7 +54,7 @@ loop-again c =
     let at-loop-test = at-place-of.before in
     let at-loop = at-loop-test.before in
     let at-args = at-loop.before in
-    leading-next at-args.args.self _ _ _ at-loop.loop.invariant _ at-loop-test.loop-test.true at-place-of.place_of.ensures.0 (sym at-lasts.lasts.ensures ∙ not-false _ c.if1.false)
+    leading_next at-args.args.self _ _ _ at-loop.loop.invariant _ at-loop-test.loop-test.true at-place-of.place_of.ensures.0 (sym at-lasts.lasts.ensures ∙ not-false _ c.if1.false)
 
 returns-2 : tie.Need-returns-2 invariant-loop decreases-loop
 returns-2 c = leading_end c.before.before.args.self _ _ _ c.before.loop.invariant c.loop-test.false

@@ -2,7 +2,7 @@
 use mathlib.Core.Path.{sym, ◌∙◌}
 use Prim.Native.Nat.{◌-◌}
 use borrow.Author.Rules.{rules}
-use Rattle.queue.proofs.Clearing.{Packing, packing-start, packing-drop, packing-keep, packing-end}
+use Rattle.queue.proofs.Clearing.{Packing, packing_start, packing_drop, packing_keep, packing_end}
 use Rattle.queue.proofs.Ring.pack.Statement.{statement}
 use Rattle.queue.proofs.Ring.pack.Tie as tie
 
@@ -14,7 +14,7 @@ abbrev decreases-loop : tie.decreases-loop
 decreases-loop queue₀ from n head len room chrom kept₀ k₀ queue kept k = len - k
 
 loop-holds : tie.Need-loop-init invariant-loop decreases-loop
-loop-holds c = packing-start c.before.args.self _ _ _ c.before.requires
+loop-holds c = packing_start c.before.args.self _ _ _ c.before.requires
 
 place-of-requires : tie.Need-place-of-requires invariant-loop decreases-loop
 place-of-requires c κs = search rules
@@ -64,7 +64,7 @@ loop-again c =
     let at-loop-test = at-place-of.before in
     let at-loop = at-loop-test.before in
     let at-args = at-loop.before.before in
-    packing-keep at-args.args.self _ _ _ _ _ at-loop.loop.invariant _ at-loop-test.loop-test.true at-place-of.place_of.ensures.0 _ at-place-of2.place-of2.ensures.0 (sym at-lasts.lasts.ensures ∙ at-if1.if1.true)
+    packing_keep at-args.args.self _ _ _ _ _ at-loop.loop.invariant _ at-loop-test.loop-test.true at-place-of.place_of.ensures.0 _ at-place-of2.place-of2.ensures.0 (sym at-lasts.lasts.ensures ∙ at-if1.if1.true)
 
 loop-less-2 : tie.Need-loop-smaller-2 invariant-loop decreases-loop
 loop-less-2 c = search rules
@@ -76,13 +76,13 @@ loop-again-2 c =
     let at-loop-test = at-place-of.before in
     let at-loop = at-loop-test.before in
     let at-args = at-loop.before.before in
-    packing-drop at-args.args.self _ _ _ _ _ at-loop.loop.invariant _ at-loop-test.loop-test.true at-place-of.place_of.ensures.0 (sym at-lasts.lasts.ensures ∙ c.if1.false)
+    packing_drop at-args.args.self _ _ _ _ _ at-loop.loop.invariant _ at-loop-test.loop-test.true at-place-of.place_of.ensures.0 (sym at-lasts.lasts.ensures ∙ c.if1.false)
 
 same_length : tie.Need-same-length invariant-loop decreases-loop
 same_length c = search rules
 
 returns : tie.Need-returns invariant-loop decreases-loop
-returns c = packing-end c.before.before.before.args.self _ _ _ _ _ c.before.loop.invariant c.loop-test.false
+returns c = packing_end c.before.before.before.args.self _ _ _ _ _ c.before.loop.invariant c.loop-test.false
 
 pub pack-spec : {M : Type 1} → statement M
 pack-spec =

@@ -1,11 +1,11 @@
 -- `Ring::push`: a store at number `len`, one more than those that wait.
-use Rattle.queue.proofs.Pushing.{push-done, push-full}
+use Rattle.queue.proofs.Pushing.{push_done, push_full}
 use borrow.Author.Rules.{rules}
 use Rattle.queue.proofs.Ring.push.Statement.{statement}
 use Rattle.queue.proofs.Ring.push.Tie as tie
 
 returns : tie.Need-returns
-returns c = push-full c.before.before.args.self _ _ c.before.before.requires c.if1.true
+returns c = push_full c.before.before.args.self _ _ c.before.before.requires c.if1.true
 
 place-of-requires : tie.Need-place-of-requires
 place-of-requires c κs = search rules
@@ -27,7 +27,7 @@ returns-2 c =
     let at-place-of = c.before in
     let at-if1 = at-place-of.before in
     let at-args = at-if1.before.before in
-    push-done at-args.args.self _ at-args.args.slot at-args.requires _ at-if1.if1.false at-place-of.place_of.ensures.0
+    push_done at-args.args.self _ at-args.args.slot at-args.requires _ at-if1.if1.false at-place-of.place_of.ensures.0
 
 pub push_spec : {M : Type 1} → statement M
 push_spec =

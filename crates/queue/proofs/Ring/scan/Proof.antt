@@ -3,7 +3,7 @@ use mathlib.Core.Path.{sym, ◌∙◌}
 use Prim.Native.Nat.{◌-◌}
 use native.Mathlib.Omega.{arith}
 use borrow.Author.Rules.{rules}
-use Rattle.queue.proofs.Scanning.{Scanning, scanning-start, scanning-pass, scanning-put, scanning-end}
+use Rattle.queue.proofs.Scanning.{Scanning, scanning_start, scanning_pass, scanning_put, scanning_end}
 use Rattle.queue.proofs.Ring.scan.Statement.{statement}
 use Rattle.queue.proofs.Ring.scan.Tie as tie
 
@@ -14,7 +14,7 @@ abbrev decreases-loop : tie.decreases-loop
 decreases-loop queue answers₀ head len room until n₀ k₀ answers n k = len - k
 
 loop-holds : tie.Need-loop-init invariant-loop decreases-loop
-loop-holds c = scanning-start _ _ _ _ _ _
+loop-holds c = scanning_start _ _ _ _ _ _
 
 place-of-requires : tie.Need-place-of-requires invariant-loop decreases-loop
 place-of-requires c κs = search rules
@@ -72,7 +72,7 @@ loop-again c =
     let at-loop-test = at-place-of.before in
     let at-loop = at-loop-test.before in
     let at_pre = at-loop.before in
-    scanning-put _ _ _ _ _ _ _ _ _ at-loop.loop.invariant at-loop-test.loop-test.true _ at-place-of.place_of.ensures.0 (sym at-reaches.reaches.ensures ∙ at-if1.if1.true) (omega (arith, at_pre.requires))
+    scanning_put _ _ _ _ _ _ _ _ _ at-loop.loop.invariant at-loop-test.loop-test.true _ at-place-of.place_of.ensures.0 (sym at-reaches.reaches.ensures ∙ at-if1.if1.true) (omega (arith, at_pre.requires))
 
 loop-less-2 : tie.Need-loop-smaller-2 invariant-loop decreases-loop
 loop-less-2 c = search rules
@@ -83,13 +83,13 @@ loop-again-2 c =
     let at-place-of = at-reaches.before.before in
     let at-loop-test = at-place-of.before in
     let at-loop = at-loop-test.before in
-    scanning-pass _ _ _ _ _ _ _ _ _ at-loop.loop.invariant at-loop-test.loop-test.true _ at-place-of.place_of.ensures.0 (sym at-reaches.reaches.ensures ∙ c.if1.false)
+    scanning_pass _ _ _ _ _ _ _ _ _ at-loop.loop.invariant at-loop-test.loop-test.true _ at-place-of.place_of.ensures.0 (sym at-reaches.reaches.ensures ∙ c.if1.false)
 
 same_length : tie.Need-same-length invariant-loop decreases-loop
 same_length c = search rules
 
 returns : tie.Need-returns invariant-loop decreases-loop
-returns c = scanning-end c.before.before.args.self _ c.before.before.args.b _ _ _ _ c.before.loop.invariant c.loop-test.false c.before.before.requires.cleared
+returns c = scanning_end c.before.before.args.self _ c.before.before.args.b _ _ _ _ c.before.loop.invariant c.loop-test.false c.before.before.requires.cleared
 
 pub scan-spec : {M : Type 1} → statement M
 scan-spec =

@@ -3,7 +3,7 @@ use mathlib.Core.Path.{refl, sym, ◌∙◌}
 use Prim.Native.Nat.{◌-◌}
 use native.Mathlib.Omega.{arith}
 use borrow.Author.Rules.{rules}
-use Rattle.queue.proofs.Clearing.{Skipping, skipping-start, skipping-stop, skipping-next, skipping-end}
+use Rattle.queue.proofs.Clearing.{Skipping, skipping_start, skipping_stop, skipping_next, skipping_end}
 use Rattle.queue.proofs.Ring.skip.Statement.{statement}
 use Rattle.queue.proofs.Ring.skip.Tie as tie
 
@@ -15,7 +15,7 @@ abbrev decreases-loop : tie.decreases-loop
 decreases-loop queue from room chrom head₀ len₀ head len = len
 
 loop-holds : tie.Need-loop-init invariant-loop decreases-loop
-loop-holds c = skipping-start _ _ _ c.before.requires.sound
+loop-holds c = skipping_start _ _ _ c.before.requires.sound
 
 mul-lasts : tie.Need-overflow-mul-lasts invariant-loop decreases-loop
 mul-lasts c = search rules
@@ -30,7 +30,7 @@ lasts-requires : tie.Need-lasts-requires invariant-loop decreases-loop
 lasts-requires c κs = search rules
 
 returns : tie.Need-returns invariant-loop decreases-loop
-returns c = skipping-stop _ _ _ _ c.before.before.before.before.loop.invariant (c.before.before.before.before.loop.len - 1) _ (omega arith) refl (sym c.before.lasts.ensures ∙ c.if1.true)
+returns c = skipping_stop _ _ _ _ c.before.before.before.before.loop.invariant (c.before.before.before.before.loop.len - 1) _ (omega arith) refl (sym c.before.lasts.ensures ∙ c.if1.true)
 
 place-of-requires : tie.Need-place-of-requires invariant-loop decreases-loop
 place-of-requires c κs = search rules
@@ -46,10 +46,10 @@ loop-again c =
     let at-if1 = c.before in
     let at-lasts = at-if1.before in
     let at-loop = at-lasts.before.before.before in
-    skipping-next _ _ _ _ at-loop.loop.invariant (at-loop.loop.len - 1) _ (omega arith) c.place_of.ensures.0 (sym at-lasts.lasts.ensures ∙ at-if1.if1.false) c.place_of.ensures.1
+    skipping_next _ _ _ _ at-loop.loop.invariant (at-loop.loop.len - 1) _ (omega arith) c.place_of.ensures.0 (sym at-lasts.lasts.ensures ∙ at-if1.if1.false) c.place_of.ensures.1
 
 returns-2 : tie.Need-returns-2 invariant-loop decreases-loop
-returns-2 c = skipping-end _ _ _ _ c.before.loop.invariant (omega arith)
+returns-2 c = skipping_end _ _ _ _ c.before.loop.invariant (omega arith)
 
 pub skip-spec : {M : Type 1} → statement M
 skip-spec =

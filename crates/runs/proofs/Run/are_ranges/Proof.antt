@@ -5,8 +5,8 @@ use native.Mathlib.Omega.{arith}
 use borrow.Author.Rules.{rules}
 use borrow.Author.Count.{below_more}
 use lib.ListN.{get_or}
-use Rattle.basics.proofs.SaysLaws.{says-true}
-use Rattle.runs.proofs.Starting.{Ranged, ranged-says, unranged}
+use Rattle.basics.proofs.SaysLaws.{says_true}
+use Rattle.runs.proofs.Starting.{Ranged, ranged_says, unranged}
 use Rattle.runs.proofs.Run.are_ranges.Statement.{statement}
 use Rattle.runs.proofs.Run.are_ranges.Tie as tie
 
@@ -71,7 +71,7 @@ loop-again c =
     )
 
 returns-4 : tie.Need-returns-4 invariant-loop decreases-loop
-returns-4 c = let e : c.before.loop.k ≡ c.before.before.before.args.streams = omega arith in sym (says-true (ranged-says _ _ _ _) (c.before.loop.invariant.2, rw e at c.before.loop.invariant.0))
+returns-4 c = let e : c.before.loop.k ≡ c.before.before.before.args.streams = omega arith in sym (says_true (ranged_says _ _ _ _) (c.before.loop.invariant.2, rw e at c.before.loop.invariant.0))
 
 pub are-ranges-spec : {M : Type 1} → statement M
 are-ranges-spec =
