@@ -1,4 +1,6 @@
 // Whether a base is let in to a run that goes on: refusal 1 (`is_right`), then 4, 6, 3, 5 (`judge`). There are tests only, and nothing is written.
+#![tactic(auto)]
+
 ghost use Rattle.std.specs.Prelude.{◌≡◌, ◌||◌, ℕ, ◌-◌, ◌≤◌, ltb, length};
 ghost use Rattle.rules.specs.Bases.{not_before, in_order, judge};
 ghost use Rattle.least.specs.Fours.{is_ended};

@@ -1,1 +1,2 @@
 // Laws of lists and of tests, for proofs alone: this crate has no code.
+#![tactic(auto)]

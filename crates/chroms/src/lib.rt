@@ -1,4 +1,6 @@
 // The chromosome list: read from a text, checked, and asked for the number of a name.
+#![tactic(auto)]
+
 ghost use Rattle.std.specs.Prelude.{◌≡◌, ◌≤◌, ◌<◌, true, length, get_or};
 ghost use Rattle.fields.specs.Names.{within, names};
 ghost use Rattle.fields.specs.Scan.{FieldTo};

@@ -1,5 +1,7 @@
 // Texts read in one walk: where a field or a line ends, the number in a field, a name among names.
 // The functions here are called by proved readers alone.
+#![tactic(auto)]
+
 ghost use Rattle.std.specs.Prelude.{◌≡◌, ◌+◌, ◌<◌, ◌≤◌, min, true, length, get_or, drop};
 ghost use Rattle.fields.specs.Scan.{in_field, FieldTo, Past, next_line, number_at, Counting, Counted};
 ghost use Rattle.fields.specs.Names.{part, within, names, same, number_in};

@@ -1,4 +1,6 @@
 // The layout of a rule, written to the lent columns.
+#![tactic(auto)]
+
 ghost use Rattle.std.specs.Prelude.{◌≡◌, map, ◌≤◌, length};
 ghost use Rattle.spans.specs.Spans.{spans};
 ghost use Rattle.layouts.specs.Given.{bases, mark_of};

@@ -1,4 +1,6 @@
 // How many fragments and pieces a rule gives, and the answer by them: which calls are refused.
+#![tactic(auto)]
+
 ghost use Rattle.std.specs.Prelude.{◌≡◌, ◌≤◌, length};
 ghost use Rattle.spans.specs.Spans.{spans};
 ghost use Rattle.layouts.specs.Fragments.{gaps};

@@ -1,4 +1,6 @@
 // The choices for the base (A) and for the records (B), and the table of their twenty-five pairs: the fragment rule of each.
+#![tactic(auto)]
+
 ghost use Rattle.std.specs.Prelude.{◌≡◌, ◌<◌};
 ghost use Rattle.fragment_rules.specs.Rules.{rule_of, place_of};
 

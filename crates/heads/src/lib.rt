@@ -1,4 +1,6 @@
 // The heads of up to eight streams: what taking the least comes to, and loading them. They are four numbers each, in an array that goes on in place.
+#![tactic(auto)]
+
 ghost use Rattle.std.specs.Prelude.{◌≡◌, List, [], ◌∷◌, ℕ, ◌+◌, ◌<◌, ◌≤◌, length};
 ghost use Rattle.std.proofs.Math.Option.{none, some};
 ghost use Rattle.rules.specs.Rows.{good, follows, fault};

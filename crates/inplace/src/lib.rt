@@ -1,4 +1,6 @@
 // Calls for hosts: a run kept in place by its caller, and the readers.
+#![tactic(auto)]
+
 mod readers;
 mod told;
 

@@ -1,5 +1,7 @@
 // The texts of a listing, read to columns, and what is wrong with them before the run.
 // The functions here are called by the proved listing alone.
+#![tactic(auto)]
+
 ghost use Rattle.std.specs.Prelude.{◌≡◌, true, ◌+◌, ◌*◌, ◌≤◌, length};
 ghost use Rattle.fields.specs.Names.{within, names};
 ghost use Rattle.fields.specs.Table.{rows_of};

@@ -1,5 +1,7 @@
 // The fragments in the words of the scope document, how a rule lays them out, and the answer of a call, for contracts and proofs: this crate has no functions.
 // Why nothing was written.
+#![tactic(auto)]
+
 #[derive(Drop)]
 pub enum Refusal {
     // Lent columns differ in length.

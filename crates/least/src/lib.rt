@@ -1,4 +1,6 @@
 // The least of the heads of up to eight streams, each four numbers: chromosome, start, stop and row.
+#![tactic(auto)]
+
 ghost use Rattle.std.specs.Prelude.{◌≡◌, ◌<◌, ◌≤◌};
 ghost use Rattle.least.specs.Fours.{is_ended};
 ghost use Rattle.least.specs.Least.{sooner, best_at, better_of, least_in};

@@ -1,5 +1,7 @@
 // The lines of the listing, written to a lent buffer: a line is written whole, or nothing of it is.
 // The functions here are called by the proved listing alone.
+#![tactic(auto)]
+
 ghost use Rattle.std.specs.Prelude.{◌≡◌, [], ◌∷◌, ◌++◌, ◌+◌, ◌≤◌, length};
 ghost use Rattle.lines.specs.Lines.{decimal, numbered, line_b, line_r, line_x, line_x', line_f};
 ghost use Rattle.lines.specs.Put.{Wrote, Puts};

@@ -1,4 +1,6 @@
 // The listing of texts: files to text, in one call for hosts.
+#![tactic(auto)]
+
 ghost use Rattle.std.specs.Prelude.{◌≡◌, length};
 ghost use Rattle.fields.specs.Names.{names};
 ghost use Rattle.heads.specs.View.{cols};

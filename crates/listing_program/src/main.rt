@@ -1,5 +1,7 @@
 // Writes the listing of files to standard output: `./cedarlash list LIST BASES STREAM...`.
 // What can't be read or written is said on standard error, and nothing else is; a program has no exit status of its own to say it with.
+#![tactic(auto)]
+
 mod files;
 mod listing;
 

@@ -1,4 +1,6 @@
 // Bases given to a run one after the other in one call: as by the call for one base, and faster.
+#![tactic(auto)]
+
 ghost use Rattle.std.specs.Prelude.{◌≡◌, ◌&&◌, ◌-◌, ◌<◌, ◌≤◌, eqb, leb, ltb, length};
 ghost use Rattle.heads.specs.View.{cols, heads_by};
 ghost use Rattle.admit.specs.Right.{right};

@@ -1,5 +1,7 @@
 // Small words of numbers that many crates need, each said once: a number as a place, whether sizes are kept to, how far a base reaches, how
 // long a record lasts, the numbers of refusals.
+#![tactic(auto)]
+
 ghost use Rattle.std.specs.Prelude.{◌≡◌};
 ghost use Rattle.rules.specs.Start.{sized};
 ghost use Rattle.rules.specs.Overlap.{reaches, lasts};

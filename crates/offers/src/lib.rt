@@ -1,5 +1,7 @@
 // What a base gets: the records that overlap it, of those that wait, and the offered place. What waits first, or else the least head, says how far
 // bases may be left out.
+#![tactic(auto)]
+
 ghost use Rattle.std.specs.Prelude.{◌≡◌};
 ghost use Rattle.std.proofs.Math.Option.{some};
 ghost use Rattle.rules.specs.Overlap.{awaited};

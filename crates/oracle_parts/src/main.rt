@@ -1,6 +1,8 @@
 // Replays a recorded list of fragments: reads `parts.txt`, makes each job's fragments anew and compares them with those recorded.
 // Prints how many jobs there are and how many differ, and the line of the first that differs.
 // A line: A B base_start base_stop n, n records, F, then for each fragment: present bstart bstop k, k pieces; `#` starts a comment line.
+#![tactic(auto)]
+
 use libc::STDOUT_FILENO;
 use parts::{Answer, Choice, Span};
 use tests_shared::{Num, at, is_end, line_end, matches, more, nothing, number};

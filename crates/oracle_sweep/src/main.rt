@@ -2,6 +2,8 @@
 // Prints how many jobs, bases and records there are and how many jobs differ, and the line of the first that differs.
 // A line: chromosomes, streams; for each stream its rows' count and chromosome, start and stop of each; the bases so too; then for each
 // base its records' count and stream and row of each, those of equal start by stream and row. `#` starts a comment line.
+#![tactic(auto)]
+
 mod job;
 mod order;
 

@@ -1,4 +1,6 @@
 // Fragments: what a base and one stream's records overlapping it come to, under a choice for the base (A) and one for the records (B).
+#![tactic(auto)]
+
 ghost use Rattle.std.specs.Prelude.{◌≡◌};
 ghost use Rattle.layouts.specs.Columns.{columns};
 ghost use Rattle.parts.specs.Valid.{sized_of, number_of, refusal_number};

@@ -1,4 +1,6 @@
 // An accepted base: heads are taken, what is live is queued, and the base is answered. The heads lie in one array of fours and go on in place.
+#![tactic(auto)]
+
 ghost use Rattle.std.specs.Prelude.{◌≡◌};
 ghost use Rattle.heads.specs.View.{cols, heads_by};
 ghost use Rattle.queue.specs.Ring.{Fair};

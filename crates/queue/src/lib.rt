@@ -1,4 +1,6 @@
 // Records waiting for later bases: a ring of lent slots (stream, row, start, stop), all on one chromosome.
+#![tactic(auto)]
+
 ghost use Rattle.std.specs.Prelude.{◌≡◌, ◌+◌, ◌≤◌, ◌<◌, length};
 ghost use Rattle.basics.specs.Lists.{filter};
 ghost use Rattle.rules.specs.Overlap.{overlaps};

@@ -1,4 +1,6 @@
 // A base is given to a run, and its lines are written to a lent buffer.
+#![tactic(auto)]
+
 ghost use Rattle.std.specs.Prelude.{◌≡◌, [], ◌∷◌, ◌+◌, ◌≤◌, length, get_or};
 ghost use Rattle.rules.specs.Numbers.{end_number, end_values};
 ghost use Rattle.heads.specs.View.{cols};

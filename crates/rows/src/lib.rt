@@ -1,4 +1,6 @@
 // BED text to rows: chromosome number, start and stop of each line.
+#![tactic(auto)]
+
 ghost use Rattle.std.specs.Prelude.{◌≡◌, true, [], ◌+◌, ◌≤◌, ◌<◌, length, get_or, take, drop};
 ghost use Rattle.fields.specs.Names.{within, names, number_in};
 ghost use Rattle.fields.specs.Scan.{FieldTo, number_at, field_at};

@@ -1,4 +1,5 @@
 // The words of the scope document as types. There is no code here: what is right stands in specs/.
+#![tactic(auto)]
 
 // A stream's number, and a chromosome's number in list order: neither can stand where the other is due.
 #[derive(Drop)]

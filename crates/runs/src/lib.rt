@@ -1,4 +1,6 @@
 // A run, in numbers and arrays alone: what it carries, how it stands, its start and its end.
+#![tactic(auto)]
+
 mod mark;
 mod start;
 

@@ -1,4 +1,6 @@
 // Spans written to two lent columns, one behind the other: the pieces of records, the gaps of a base, the ranges of pieces.
+#![tactic(auto)]
+
 ghost use Rattle.std.specs.Prelude.{◌≡◌, [], ◌∷◌, ◌<◌, ◌≤◌, length, replicate};
 ghost use Rattle.spans.specs.Spans.{stretch, spans};
 ghost use Rattle.layouts.specs.Fragments.{gaps};

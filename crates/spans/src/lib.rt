@@ -1,4 +1,6 @@
 // What one base and one record give by themselves: the clip, the record's parts outside the base, one turn of the walk over gaps, and whether the record fits.
+#![tactic(auto)]
+
 mod turn;
 
 ghost use Rattle.std.specs.Prelude.{◌≡◌, ◌++◌, ◌≤◌, min, max, length};

@@ -1,4 +1,6 @@
 // One base of a run at which 1 is not due: 4, 6, 3, 5; at the first that is accepted the heads are loaded; then it is answered. The heads go on in place.
+#![tactic(auto)]
+
 ghost use Rattle.std.specs.Prelude.{◌≡◌};
 ghost use Rattle.heads.specs.View.{cols, heads_by};
 ghost use Rattle.heads.specs.Load.{Loadable};

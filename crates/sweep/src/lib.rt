@@ -1,4 +1,6 @@
 // The sweep: one base in, its records and an offer out.
+#![tactic(auto)]
+
 ghost use Rattle.heads.specs.View.{cols};
 ghost use Rattle.pulls.specs.Pulls.{lent};
 ghost use Rattle.step.specs.Give.{Gives};

@@ -1,5 +1,7 @@
 // Prints the fragments of all twenty-five pairs of choices for a handful of bases and records, then calls that are refused.
 // A pair's line: its two choices, how many fragments and pieces, then each fragment: its base part, or `-`, and its pieces.
+#![tactic(auto)]
+
 ghost use Rattle.std.specs.Prelude.{◌≤◌};
 
 use libc::STDOUT_FILENO;

@@ -1,5 +1,7 @@
 // Drives the queue through a full ring, wrap-around, dead records at the front and in the middle, touching ones, a new chromosome and a
 // room of one, and writes what waits after each step.
+#![tactic(auto)]
+
 ghost use Rattle.std.specs.Prelude.{◌≡◌, ◌≤◌, ◌<◌, length};
 ghost use Rattle.queue.specs.Ring.{Fair};
 ghost use Rattle.tests_queue.specs.Ready.{Ready};

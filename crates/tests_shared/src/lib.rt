@@ -1,5 +1,7 @@
 // What the programs that replay and play jobs share: numbers parted by single spaces in the lines of a text, parts of columns, and names of
 // chromosomes.
+#![tactic(auto)]
+
 mod columns;
 mod names;
 

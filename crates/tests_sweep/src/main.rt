@@ -20,6 +20,8 @@
 //                         11 length, 12 room, 13 chromosome
 //   a CHROM START STOP    the run stands as after this base
 //   z KIND A B C          the run's mark is overwritten: 7 to 10, ended by that, for 7 and 8 at stream A and row B
+#![tactic(auto)]
+
 ghost use Rattle.std.specs.Prelude.{◌<◌, length};
 
 mod cases;

@@ -1,5 +1,7 @@
 // Sample texts read by the chromosome list and the row reader: what each answers and leaves in its columns.
 // A slot that was not written shows as 7. The samples stand in this folder's `stdin`, each up to a byte 30.
+#![tactic(auto)]
+
 ghost use Rattle.std.specs.Prelude.{◌≤◌, length};
 
 use chroms::{Check, Lookup};

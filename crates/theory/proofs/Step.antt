@@ -18,7 +18,7 @@ module _ {R B : Type 0} (m : Mode R B) (laws : Laws m) where
   open m use {le, before, take, live, wait}
 
   -- a record that was drawn waits exactly if it is live
-  pub took_wait : {bs : List B} {b : B} (r : R) → Since m bs b → took m bs r ≡ true → wait b r ≡ live b r
+  pub took_wait : {b : B} {bs : List B} (r : R) → Since m bs b → took m bs r ≡ true → wait b r ≡ live b r
   took_wait r nil t = cc
   took_wait {b} r (cons {x = p} {l = bs} o os) t =
       or_cases (take p r) (took m bs r) t (λ e. iff (laws.drawn p b r o e) (laws.waits b b r (laws.same b))) (λ e. took_wait r os e)

@@ -1,5 +1,7 @@
 // The bases of a listing's texts, one at a time: the run that begins, a base given to it, its lines written.
 // The functions here are called by the proved listing and its program alone.
+#![tactic(auto)]
+
 ghost use Rattle.std.specs.Prelude.{◌≡◌, [], ◌+◌, ◌≤◌, ◌<◌, length, get_or};
 ghost use Rattle.fields.specs.Names.{names};
 ghost use Rattle.heads.specs.View.{cols};
