@@ -12,7 +12,7 @@ use queue::Ring;
 use rules::{Base, Refusal, Settings, Stage};
 
 // The lengths of what is lent with a base: the streams' columns, the chromosomes' lengths, the queue's slots and the answer rows.
-#[derive(Drop)]
+#[derive(Clone, Copy)]
 pub struct Lens {
     pub chrom: usize,
     pub start: usize,
@@ -23,7 +23,7 @@ pub struct Lens {
 }
 
 // Whether a base is let in.
-#[derive(Drop)]
+#[derive(Clone, Copy)]
 pub enum Gate {
     Open,
     Shut(Refusal),

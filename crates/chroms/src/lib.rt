@@ -15,7 +15,7 @@ use rules::Settings;
 pub const UNKNOWN: u64 = 18446744073709551615;
 
 // A chromosome: where its name starts and ends in the text, and its length.
-#[derive(Drop)]
+#[derive(Clone, Copy)]
 pub struct Entry {
     pub from: usize,
     pub to: usize,
@@ -23,7 +23,7 @@ pub struct Entry {
 }
 
 // A chromosome line, and where the next line starts; or it is malformed.
-#[derive(Drop)]
+#[derive(Clone, Copy)]
 enum Line {
     Is(Entry, usize),
     Not,
@@ -112,7 +112,7 @@ pub fn read_list(text: &[u8], from: &mut [usize], to: &mut [usize], len: &mut [u
 }
 
 // What is wrong with a list: nothing, a size (1) or a name (2).
-#[derive(Drop)]
+#[derive(Clone, Copy)]
 pub enum Check {
     Fine,
     Sizes,
@@ -120,7 +120,7 @@ pub enum Check {
 }
 
 // A name's number in list order, or the number after the last; refused (1) where the list names what is not in its text.
-#[derive(Drop)]
+#[derive(Clone, Copy)]
 pub enum Lookup {
     Number(usize),
     Refused,

@@ -7,7 +7,7 @@ ghost use Rattle.fields.specs.Scan.{in_field, FieldTo, Past, next_line, number_a
 ghost use Rattle.fields.specs.Names.{part, within, names, same, number_in};
 
 // How a reading ended, with the rows ahead of the end; refused: nothing was read.
-#[derive(Drop)]
+#[derive(Clone, Copy)]
 pub enum Reading {
     Whole(usize),
     Malformed(usize),
@@ -16,7 +16,7 @@ pub enum Reading {
 }
 
 // The number in a field, and where the field ends; or the field holds none.
-#[derive(Drop)]
+#[derive(Clone, Copy)]
 pub enum Number {
     Value(u64, usize),
     Bad,
@@ -92,7 +92,7 @@ pub fn least(a: usize, b: usize) -> usize
 }
 
 // Digits passed over: their value, and where the walk stopped.
-#[derive(Drop)]
+#[derive(Clone, Copy)]
 struct Digits {
     value: u64,
     stop: usize,

@@ -5,7 +5,7 @@ ghost use Rattle.std.specs.Prelude.{◌≡◌, ◌<◌};
 ghost use Rattle.fragment_rules.specs.Rules.{rule_of, place_of};
 
 // What to report of the base (A), or of a record (B).
-#[derive(Drop)]
+#[derive(Clone, Copy)]
 pub enum Choice {
     None,
     Whole,
@@ -15,7 +15,7 @@ pub enum Choice {
 }
 
 // Where the base parts of the fragments come from.
-#[derive(Drop)]
+#[derive(Clone, Copy)]
 pub enum Parting {
     // One fragment, with no base part.
     Bare,
@@ -30,7 +30,7 @@ pub enum Parting {
 }
 
 // What a record gives to the pieces.
-#[derive(Drop)]
+#[derive(Clone, Copy)]
 pub enum Giving {
     Nothing,
     Record,
@@ -41,7 +41,7 @@ pub enum Giving {
 }
 
 // The fragment rule of a pair of choices: where the base parts come from, and what a record gives.
-#[derive(Drop)]
+#[derive(Clone, Copy)]
 pub struct Rule(pub Parting, pub Giving);
 
 // The rule of each pair: a row for each choice for A, in it an entry for each choice for B, both in the order None, Whole, WholeWide, Piece, Inverse.

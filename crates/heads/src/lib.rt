@@ -14,7 +14,7 @@ use least::Best;
 use rules::{Base, Chrom, End, Settings, Stream};
 
 // A head that is taken: its stream, whether it is live for the base, its row, start and stop.
-#[derive(Drop)]
+#[derive(Clone, Copy)]
 pub struct Taken {
     pub stream: Stream,
     pub live: bool,
@@ -24,7 +24,7 @@ pub struct Taken {
 }
 
 // A row that was read, and the place after it in the lent columns.
-#[derive(Drop)]
+#[derive(Clone, Copy)]
 pub struct Next {
     pub chrom: Chrom,
     pub start: u64,
@@ -34,21 +34,21 @@ pub struct Next {
 }
 
 // What is wrong with a row, if anything.
-#[derive(Drop)]
+#[derive(Clone, Copy)]
 pub enum Check {
     Fine,
     Wrong(End),
 }
 
 // What becomes of a stream whose head is taken: it has ended, or the row behind that head is its head.
-#[derive(Drop)]
+#[derive(Clone, Copy)]
 pub enum Then {
     Ends,
     Goes(Next),
 }
 
 // What a turn of a pull comes to.
-#[derive(Drop)]
+#[derive(Clone, Copy)]
 pub enum Move {
     // No head is to be taken; the least one, of stream 8 where there is none.
     Stay(Best),

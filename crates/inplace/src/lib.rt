@@ -19,7 +19,7 @@ pub use told::{Offered, Stopped};
 // What bases came to that were given one after the other: how many were answered, how many records these have together, what was offered after the last
 // of them, and what stopped them, where the next one was given and got no records.
 #[repr(C)]
-#[derive(Drop)]
+#[derive(Clone, Copy)]
 pub struct Swept {
     pub bases: usize,
     pub records: usize,
@@ -28,14 +28,14 @@ pub struct Swept {
 }
 
 // A run that was begun, and the refusal's number or 0.
-#[derive(Drop)]
+#[derive(Clone, Copy)]
 struct Begun {
     run: Run,
     number: u64,
 }
 
 // A run after bases, and what these came to.
-#[derive(Drop)]
+#[derive(Clone, Copy)]
 struct Carried {
     run: Run,
     swept: Swept,

@@ -10,7 +10,7 @@ use fields::Reading;
 
 // How a reading ended: the refusal's number or 0, and the rows ahead of the end.
 #[repr(C)]
-#[derive(Drop)]
+#[derive(Clone, Copy)]
 pub struct Tally {
     pub refusal: u64,
     pub rows: usize,

@@ -6,7 +6,7 @@ use rules::{Answer, End, Offer};
 
 // What was offered: `any` is 1 where a place is, with its chromosome and its stop. All is 0 where none is.
 #[repr(C)]
-#[derive(Drop)]
+#[derive(Clone, Copy)]
 pub struct Offered {
     pub any: u64,
     pub chrom: u64,
@@ -15,7 +15,7 @@ pub struct Offered {
 
 // What a base got that got no records: the refusal, and of 7 and 8 stream and row. What is not named is 0, and all is where nothing stopped the bases.
 #[repr(C)]
-#[derive(Drop)]
+#[derive(Clone, Copy)]
 pub struct Stopped {
     pub refusal: u64,
     pub stream: u64,

@@ -15,28 +15,28 @@ use fields::Reading;
 use rules::Settings;
 
 // What is wrong before the run: nothing, or a refusal's number, the text's number and the rows ahead.
-#[derive(Drop)]
+#[derive(Clone, Copy)]
 pub enum Verdict {
     Fine,
     Fault(u64, u64, u64),
 }
 
 // What is wrong with the list, and how many names there are.
-#[derive(Drop)]
+#[derive(Clone, Copy)]
 struct Names {
     verdict: Verdict,
     count: usize,
 }
 
 // What is wrong with the streams, and where each one's rows end in the columns.
-#[derive(Drop)]
+#[derive(Clone, Copy)]
 struct Streams {
     verdict: Verdict,
     to: [usize; 8],
 }
 
 // What is wrong, how many names, bases and streams there are, and where each stream's rows end in the columns.
-#[derive(Drop)]
+#[derive(Clone, Copy)]
 pub struct Read {
     pub verdict: Verdict,
     pub names: usize,

@@ -126,7 +126,7 @@ module _ (base : Option Span) (f : Span → List Span) where
   held_owned [] before = refl
   held_owned (r ∷ rs) before =
       ap₂ ◌∷◌ (ap (fragment base) (slice_own before (f r) (flat_map f rs)))
-      (rw (← append_assoc before (f r) (flat_map f rs), ← length-append before (f r)) (held_owned rs (before ++ f r)))
+      (rw (append_assoc before (f r) (flat_map f rs), length-append before (f r)) at (held_owned rs (before ++ f r)))
 
   within_owned : (rs : List Span) (at k : ℕ) → at + length (flat_map f rs) ≤ k → Within k (owned f at rs)
   unfolding owned flat_map

@@ -2,7 +2,7 @@
 // Why nothing was written.
 #![tactic(auto)]
 
-#[derive(Drop)]
+#[derive(Clone, Copy)]
 pub enum Refusal {
     // Lent columns differ in length.
     Sizes,
@@ -15,7 +15,7 @@ pub enum Refusal {
 }
 
 // How many fragments and how many pieces were written, or why none.
-#[derive(Drop)]
+#[derive(Clone, Copy)]
 pub enum Answer {
     Written(usize, usize),
     Refused(Refusal),

@@ -8,7 +8,7 @@ ghost use Rattle.least.specs.Least.{sooner, best_at, better_of, least_in};
 use rules::{Chrom, Stream};
 
 // A head and its stream; stream 8 where there is none.
-#[derive(Drop)]
+#[derive(Clone, Copy)]
 pub struct Best {
     pub stream: Stream,
     pub chrom: Chrom,

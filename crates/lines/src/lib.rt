@@ -8,14 +8,14 @@ ghost use Rattle.lines.specs.Put.{Wrote, Puts};
 ghost use Rattle.lines.specs.Laid.{only_of};
 
 // Where the next line starts, or that the line did not fit.
-#[derive(Drop)]
+#[derive(Clone, Copy)]
 pub enum Put {
     At(usize),
     Full,
 }
 
 // All of several lines stand, and the place behind them; or, 14, those ahead of the first that did not fit, and the place behind those.
-#[derive(Drop)]
+#[derive(Clone, Copy)]
 pub enum Laid {
     Whole(usize),
     Part(usize),

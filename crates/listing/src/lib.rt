@@ -20,14 +20,14 @@ use runs::Run;
 
 // 0, or 14 where the listing is longer than its buffer; and how many bytes of it stand there.
 #[repr(C)]
-#[derive(Drop)]
+#[derive(Clone, Copy)]
 pub struct Listing {
     pub number: u64,
     pub length: usize,
 }
 
 // Whether the listing goes on behind a base's lines, and from which place.
-#[derive(Drop)]
+#[derive(Clone, Copy)]
 enum Step {
     On(usize),
     Done,

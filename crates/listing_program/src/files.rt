@@ -4,7 +4,7 @@ ghost use Rattle.std.specs.Prelude.{◌≡◌, ◌≤◌, length};
 use rules::Settings;
 
 // The place behind the bytes that were read, and whether all could be read.
-#[derive(Drop)]
+#[derive(Clone, Copy)]
 pub struct Got {
     pub end: usize,
     pub good: bool,

@@ -17,7 +17,7 @@ use step::State;
 
 // What bases came to that were given one after the other: the run after them, how many were answered, how many records these have together, what was
 // offered after the last of them, and what the next one got, where it was given and got no records; else that is Found(0, Nothing).
-#[derive(Drop)]
+#[derive(Clone, Copy)]
 pub struct Passed {
     pub run: Run,
     pub bases: usize,

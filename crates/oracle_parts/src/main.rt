@@ -217,7 +217,7 @@ fn is_same_job(text: &[u8], from: usize) -> bool {
 }
 
 // How the replay stands: jobs, differences, and the line of the first that differs.
-#[derive(Drop)]
+#[derive(Clone, Copy)]
 struct Tally {
     jobs: u64,
     differ: u64,

@@ -7,7 +7,7 @@ use tests_shared::{
 };
 
 // What a job comes to: how many bases and records it has, and whether all are those of the list.
-#[derive(Drop)]
+#[derive(Clone, Copy)]
 pub struct Score {
     pub bases: u64,
     pub records: u64,
@@ -15,7 +15,7 @@ pub struct Score {
 }
 
 // The streams that were read: where each one's rows begin and end in the columns, and the place behind them in the text.
-#[derive(Drop)]
+#[derive(Clone, Copy)]
 struct Streams {
     from: [usize; 8],
     to: [usize; 8],
@@ -25,7 +25,7 @@ struct Streams {
 }
 
 // The run after a base, the place behind its records in the text, how many there are, and whether they are those of the list.
-#[derive(Drop)]
+#[derive(Clone, Copy)]
 struct Step {
     run: Run,
     next: usize,

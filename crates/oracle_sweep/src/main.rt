@@ -11,7 +11,7 @@ use libc::STDOUT_FILENO;
 use tests_shared::{line_end, more};
 
 // How the replay stands: jobs, bases, records, jobs that differ, and the line of the first that does.
-#[derive(Drop)]
+#[derive(Clone, Copy)]
 struct Tally {
     jobs: u64,
     bases: u64,

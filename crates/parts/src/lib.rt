@@ -14,7 +14,7 @@ pub use layouts::{Answer, Refusal};
 pub use spans::Span;
 
 // The lengths of the lent columns.
-#[derive(Drop)]
+#[derive(Clone, Copy)]
 pub struct Lens {
     pub starts: usize,
     pub stops: usize,

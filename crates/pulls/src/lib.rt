@@ -11,7 +11,7 @@ use queue::{Pushed, Ring, Slot};
 use rules::{Answer, Base, End, Settings};
 
 // What a base gets that was accepted, and the queue after it.
-#[derive(Drop)]
+#[derive(Clone, Copy)]
 pub struct Answered {
     pub ring: Ring,
     pub answer: Answer,

@@ -10,7 +10,7 @@ ghost use Rattle.queue.specs.Deeds.{Clears, Pushes, Scannable, Scans, Fronts, Sk
 use rules::{Base, Chrom, Stream};
 
 // How many wait, where the oldest stands, how many slots were lent, and the chromosome that all are on.
-#[derive(Drop)]
+#[derive(Clone, Copy)]
 pub struct Ring {
     pub head: usize,
     pub len: usize,
@@ -19,7 +19,7 @@ pub struct Ring {
 }
 
 // A record on the ring's chromosome.
-#[derive(Drop)]
+#[derive(Clone, Copy)]
 pub struct Slot {
     pub stream: Stream,
     pub row: u64,
@@ -28,14 +28,14 @@ pub struct Slot {
 }
 
 // What pushing gives: the ring with one more, or no room.
-#[derive(Drop)]
+#[derive(Clone, Copy)]
 pub enum Pushed {
     Done(Ring),
     Full,
 }
 
 // Where the first that waits starts.
-#[derive(Drop)]
+#[derive(Clone, Copy)]
 pub enum Front {
     Nothing,
     At(u64),

@@ -17,7 +17,7 @@ use rules::{Answer, Base, End};
 use runs::Run;
 
 // The run after a base, what the base got, and what became of its lines.
-#[derive(Drop)]
+#[derive(Clone, Copy)]
 pub struct Listed {
     pub run: Run,
     pub answer: Answer,

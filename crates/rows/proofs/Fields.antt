@@ -115,10 +115,10 @@ module _ (number : List ℕ → ℕ) where
           }
 
 -- a line read with the number of its name
-pub row_named : {text : List ℕ} {at a : ℕ} (number : List ℕ → ℕ) (chrom : ℕ) (r : Line) → FieldTo text at a → chrom ≡ number (field_at text at) →
+pub row_named_lem : {text : List ℕ} {at a : ℕ} (number : List ℕ → ℕ) (chrom : ℕ) (r : Line) → FieldTo text at a → chrom ≡ number (field_at text at) →
     ReadsRow text (λ _. chrom) at r → ReadsRow text number at r
 unfolding row_of
-row_named {text} {at} {a} number chrom r f e g = record {
+row_named_lem {text} {at} {a} number chrom r f e g = record {
   line =
       rw (fields_are f)
       (sym (own_name number (field_at text at) (further (drop a text))) ∙

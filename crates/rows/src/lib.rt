@@ -12,7 +12,7 @@ ghost use Rattle.rows.specs.Read.{Knows, Names, Named, ReadsRow};
 use fields::{Number, Reading};
 
 // A row: the number of its chromosome, its start and its stop.
-#[derive(Drop)]
+#[derive(Clone, Copy)]
 pub struct Row {
     pub chrom: u64,
     pub start: u64,
@@ -20,7 +20,7 @@ pub struct Row {
 }
 
 // The name that was met last: where it starts and ends in the text, and its number.
-#[derive(Drop)]
+#[derive(Clone, Copy)]
 struct Seen {
     from: usize,
     to: usize,
@@ -28,14 +28,14 @@ struct Seen {
 }
 
 // A name: where it ends, and its number.
-#[derive(Drop)]
+#[derive(Clone, Copy)]
 struct Name {
     to: usize,
     chrom: u64,
 }
 
 // A line's row, where its name ends and where the next line starts; or it is malformed.
-#[derive(Drop)]
+#[derive(Clone, Copy)]
 enum Line {
     Is(Row, usize, usize),
     Not,

@@ -2,14 +2,14 @@
 #![tactic(auto)]
 
 // A stream's number, and a chromosome's number in list order: neither can stand where the other is due.
-#[derive(Drop)]
+#[derive(Clone, Copy)]
 pub struct Stream(pub u64);
 
-#[derive(Drop)]
+#[derive(Clone, Copy)]
 pub struct Chrom(pub u64);
 
 // A row of a stream, half-open: start is the first position, stop the first behind it.
-#[derive(Drop)]
+#[derive(Clone, Copy)]
 pub struct Row {
     pub chrom: Chrom,
     pub start: u64,
@@ -17,7 +17,7 @@ pub struct Row {
 }
 
 // A target region, half-open.
-#[derive(Drop)]
+#[derive(Clone, Copy)]
 pub struct Base {
     pub chrom: Chrom,
     pub start: u64,
@@ -25,7 +25,7 @@ pub struct Base {
 }
 
 // A place up to which bases may be left out.
-#[derive(Drop)]
+#[derive(Clone, Copy)]
 pub struct Place {
     pub chrom: Chrom,
     pub stop: u64,
@@ -33,7 +33,7 @@ pub struct Place {
 
 // What a run has fixed from its start: how many streams and chromosomes there are, and the queue's room.
 #[repr(C)]
-#[derive(Drop)]
+#[derive(Clone, Copy)]
 pub struct Settings {
     pub streams: usize,
     pub chroms: usize,
@@ -52,14 +52,14 @@ impl Settings {
 }
 
 // What is offered after a base.
-#[derive(Drop)]
+#[derive(Clone, Copy)]
 pub enum Offer {
     Nothing,
     Upto(Place),
 }
 
 // Why no run begins.
-#[derive(Drop)]
+#[derive(Clone, Copy)]
 pub enum Unbegun {
     // 1: a size is broken.
     Sizes,
@@ -68,7 +68,7 @@ pub enum Unbegun {
 }
 
 // Why a base is refused with the run unchanged.
-#[derive(Drop)]
+#[derive(Clone, Copy)]
 pub enum Refusal {
     // 1: a size is broken, lent columns differ in length, or the run or its queue names no lent stream or row.
     Sizes,
@@ -83,7 +83,7 @@ pub enum Refusal {
 }
 
 // Why a run has ended.
-#[derive(Drop)]
+#[derive(Clone, Copy)]
 pub enum End {
     // 7: stream record: chromosome not on the list, or start > stop; its stream and row.
     Faulty(Stream, u64),
@@ -96,7 +96,7 @@ pub enum End {
 }
 
 // How a run stands: no base accepted yet, the last accepted base, or its end.
-#[derive(Drop)]
+#[derive(Clone, Copy)]
 pub enum Stage {
     Fresh,
     After(Base),
@@ -104,7 +104,7 @@ pub enum Stage {
 }
 
 // What a base gets: its records' count and the offer, a refusal, or the end of the run.
-#[derive(Drop)]
+#[derive(Clone, Copy)]
 pub enum Answer {
     Found(usize, Offer),
     Refused(Refusal),

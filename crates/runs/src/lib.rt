@@ -17,7 +17,7 @@ pub use start::{Begins, Started};
 // columns and where its rows begin and end there; what is fixed from the start; where the oldest that waits stands, how many wait and the chromosome
 // that they are on; how the run stands. Any content is a run.
 #[repr(C)]
-#[derive(Drop)]
+#[derive(Clone, Copy)]
 pub struct Run {
     pub chrom: [u64; 8],
     pub start: [u64; 8],
@@ -35,7 +35,7 @@ pub struct Run {
 }
 
 // The run after a base, and what the base got.
-#[derive(Drop)]
+#[derive(Clone, Copy)]
 pub struct Given {
     pub run: Run,
     pub answer: Answer,

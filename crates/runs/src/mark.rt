@@ -7,7 +7,7 @@ use rules::{Base, Chrom, End, Stage, Stream};
 // How a run stands, in numbers: 0, no base accepted yet; 1, and the last accepted base; 7 to 10, the refusal that ended it, and of 7 and
 // 8 stream and row; any other number is read as 10. What is not used is 0.
 #[repr(C)]
-#[derive(Drop)]
+#[derive(Clone, Copy)]
 pub struct Mark {
     pub kind: u64,
     pub first: u64,

@@ -10,14 +10,14 @@ use chroms::Check;
 use rules::{Settings, Stage, Unbegun};
 
 // Whether a run begins.
-#[derive(Drop)]
+#[derive(Clone, Copy)]
 pub enum Begins {
     Begun,
     Refused(Unbegun),
 }
 
 // The run that begins; where none does, the run of no streams, to which every base is refused by 1.
-#[derive(Drop)]
+#[derive(Clone, Copy)]
 pub struct Started {
     pub run: Run,
     pub begins: Begins,

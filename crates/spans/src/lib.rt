@@ -10,7 +10,7 @@ ghost use Rattle.spans.specs.Fitting.{fitting};
 pub use turn::{gap_end, next_place};
 
 // A start and a stop; the stop is not part of it.
-#[derive(Drop)]
+#[derive(Clone, Copy)]
 pub struct Span {
     pub start: u64,
     pub stop: u64,

@@ -15,7 +15,7 @@ use rules::{Answer, Base, Settings, Stage};
 use runs::Mark;
 
 // How a run stands between two bases, beside its arrays: what is fixed from its start, what waits, and its mark.
-#[derive(Drop)]
+#[derive(Clone, Copy)]
 pub struct State {
     pub fixed: Settings,
     pub ring: Ring,

@@ -11,7 +11,7 @@ pub use columns::{answer_rows, at, front, places, row_at, slots, stream_at};
 pub use names::{name_ends, name_starts, name_text};
 
 // What was read: a value, the place behind it, and whether it is there.
-#[derive(Drop)]
+#[derive(Clone, Copy)]
 pub struct Num {
     pub value: u64,
     pub next: usize,

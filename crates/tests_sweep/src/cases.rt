@@ -10,7 +10,7 @@ const SECOND: usize = 65537;
 
 // The streams' ranges in the columns, the rows that are laid and how many were laid before the last line, the number of chromosomes, and where
 // one name stands in the text.
-#[derive(Drop)]
+#[derive(Clone, Copy)]
 pub struct Plan {
     pub streams: usize,
     pub from: [usize; 8],
@@ -25,14 +25,14 @@ pub struct Plan {
 
 // A run, and how much is lent to it: chromosomes, starts and stops of the rows, the chromosomes' lengths, the queue's slots, the answer rows,
 // where the names begin and end.
-#[derive(Drop)]
+#[derive(Clone, Copy)]
 pub struct Side {
     pub run: Run,
     pub lens: [usize; 8],
 }
 
 // What a case has: the run in use, the other one, and where the memory of the one in use begins in the queue's slots.
-#[derive(Drop)]
+#[derive(Clone, Copy)]
 pub struct Bench {
     pub plan: Plan,
     pub here: Side,

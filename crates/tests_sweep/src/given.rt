@@ -11,7 +11,7 @@ use tests_shared::{
 const MARK: u64 = 7777777;
 
 // How many streams and how many row numbers of the answer rows are as they were.
-#[derive(Drop)]
+#[derive(Clone, Copy)]
 struct Kept {
     streams: u64,
     rows: u64,

@@ -38,7 +38,7 @@ pub const SLOTS: usize = 65538;
 pub const QUEUES: usize = 65601;
 
 // A line: its letter, and the numbers behind it, 0 where there is none.
-#[derive(Drop)]
+#[derive(Clone, Copy)]
 pub struct Line {
     pub letter: u8,
     pub a: u64,

@@ -41,7 +41,7 @@ returns-2 c =
 returns-3 : tie.Need-returns-3
 returns-3 c =
     let a = c.before.before.before.before.before.before.before.before.before.before.before.args in
-    judge_beyond a.lengths.now (last_of a.stage) a.b (listed c.before.before.before.before.before.before) c.before.before.if2.false (omega arith) _ c.before.before.before.before.before.IsPlace-in.ensures c.if3.true
+    judge_beyond a.lengths.now (last_of a.stage) a.b (listed c.before.before.before.before.before.before) c.before.before.if2.false (omega arith) _ c.before.before.before.before.before.place_in.ensures c.if3.true
 
 follows-requires : tie.Need-follows-requires
 follows-requires c κs = search rules
@@ -49,12 +49,12 @@ follows-requires c κs = search rules
 returns-4 : tie.Need-returns-4
 returns-4 c =
     let a = c.before.before.before.before.before.before.before.before.before.before.before.before.before.args in
-    judge_unordered a.lengths.now (last_of a.stage) a.b (listed c.before.before.before.before.before.before.before.before) c.before.before.before.before.if2.false (omega arith) _ c.before.before.before.before.before.before.before.IsPlace-in.ensures c.before.before.if3.false _ c.before.follows.ensures (not-true _ c.if4.true)
+    judge_unordered a.lengths.now (last_of a.stage) a.b (listed c.before.before.before.before.before.before.before.before) c.before.before.before.before.if2.false (omega arith) _ c.before.before.before.before.before.before.before.place_in.ensures c.before.before.if3.false _ c.before.follows.ensures (not-true _ c.if4.true)
 
 returns-5 : tie.Need-returns-5
 returns-5 c =
     let a = c.before.before.before.before.before.before.before.before.before.before.before.before.before.args in
-    judge_open a.lengths.now (last_of a.stage) a.b (listed c.before.before.before.before.before.before.before.before) c.before.before.before.before.if2.false (omega arith) _ c.before.before.before.before.before.before.before.IsPlace-in.ensures c.before.before.if3.false _ c.before.follows.ensures (not-false _ c.if4.false)
+    judge_open a.lengths.now (last_of a.stage) a.b (listed c.before.before.before.before.before.before.before.before) c.before.before.before.before.if2.false (omega arith) _ c.before.before.before.before.before.before.before.place_in.ensures c.before.before.if3.false _ c.before.follows.ensures (not-false _ c.if4.false)
 
 pub judge-spec : {M : Type 1} → statement M
 judge-spec =

@@ -35,7 +35,7 @@ returns-2 c =
     let at-place-in = c.before.before.before in
     let at-if1 = at-place-in.before in
     let at-number = at-if1.before in
-    named_at _ _ _ _ _ _ _ (omega (arith, at-number.number.ensures, at-if1.if1.false)) at-place-in.IsPlace-in.ensures c.is_row.ensures
+    named_at _ _ _ _ _ _ _ (omega (arith, at-number.number.ensures, at-if1.if1.false)) at-place-in.place_in.ensures c.is_row.ensures
 
 pub slot-named-spec : {M : Type 1} → statement M
 slot-named-spec =

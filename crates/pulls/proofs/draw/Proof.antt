@@ -87,7 +87,7 @@ go-on-requires c κs =
     let at-loop = at-decide.before.before.before.before in
     let at-number = at-loop.before in
     let at-args = at-number.before.before.before.before in
-    takes_place _ _ _ _ _ _ _ _ _ at-loop.loop.invariant _ (at-decide.decide.ensures ∙ ap (λ (n : ℕ). turn_of (cols at-args.args.chrom.now at-args.args.start.now at-args.args.stop.now) n at-args.args.b (heads_by at-loop.loop.fours at-loop.loop.ended at-loop.loop.next at-args.args.from.now at-args.args.to.now at-args.args.fixed.streams)) at-number.number.ensures) _ _ at-m3.m3.given.1 _ at-place-in.IsPlace-in.ensures
+    takes_place _ _ _ _ _ _ _ _ _ at-loop.loop.invariant _ (at-decide.decide.ensures ∙ ap (λ (n : ℕ). turn_of (cols at-args.args.chrom.now at-args.args.start.now at-args.args.stop.now) n at-args.args.b (heads_by at-loop.loop.fours at-loop.loop.ended at-loop.loop.next at-args.args.from.now at-args.args.to.now at-args.args.fixed.streams)) at-number.number.ensures) _ _ at-m3.m3.given.1 _ at-place-in.place_in.ensures
 
 keep-requires : tie.Need-keep-requires invariant-loop decreases-loop
 keep-requires c κs =
@@ -130,7 +130,7 @@ loop-less c =
     let at-loop = at-decide.before.before.before.before in
     let at-number = at-loop.before in
     let at-args = at-number.before.before.before.before in
-    takes_less _ _ _ _ _ _ _ _ _ at-loop.loop.invariant _ (at-decide.decide.ensures ∙ ap (λ (n : ℕ). turn_of (cols at-args.args.chrom.now at-args.args.start.now at-args.args.stop.now) n at-args.args.b (heads_by at-loop.loop.fours at-loop.loop.ended at-loop.loop.next at-args.args.from.now at-args.args.to.now at-args.args.fixed.streams)) at-number.number.ensures) _ _ at-m3.m3.given.1 _ at-place-in.IsPlace-in.ensures _ (at-go-on.go_on.ensures _ _ _)
+    takes_less _ _ _ _ _ _ _ _ _ at-loop.loop.invariant _ (at-decide.decide.ensures ∙ ap (λ (n : ℕ). turn_of (cols at-args.args.chrom.now at-args.args.start.now at-args.args.stop.now) n at-args.args.b (heads_by at-loop.loop.fours at-loop.loop.ended at-loop.loop.next at-args.args.from.now at-args.args.to.now at-args.args.fixed.streams)) at-number.number.ensures) _ _ at-m3.m3.given.1 _ at-place-in.place_in.ensures _ (at-go-on.go_on.ensures _ _ _)
 
 loop-again : tie.Need-loop-preserved invariant-loop decreases-loop
 loop-again c =
@@ -143,7 +143,7 @@ loop-again c =
     let at-loop = at-decide.before.before.before.before in
     let at-number = at-loop.before in
     let at-args = at-number.before.before.before.before in
-    takes_again _ _ _ _ _ _ _ _ _ at-loop.loop.invariant _ (at-decide.decide.ensures ∙ ap (λ (n : ℕ). turn_of (cols at-args.args.chrom.now at-args.args.start.now at-args.args.stop.now) n at-args.args.b (heads_by at-loop.loop.fours at-loop.loop.ended at-loop.loop.next at-args.args.from.now at-args.args.to.now at-args.args.fixed.streams)) at-number.number.ensures) _ _ at-m3.m3.given.1 _ at-place-in.IsPlace-in.ensures _ (at-go-on.go_on.ensures _ _ _) _ _ (at-keep.keep.ensures.done _ at_p.p.given.1)
+    takes_again _ _ _ _ _ _ _ _ _ at-loop.loop.invariant _ (at-decide.decide.ensures ∙ ap (λ (n : ℕ). turn_of (cols at-args.args.chrom.now at-args.args.start.now at-args.args.stop.now) n at-args.args.b (heads_by at-loop.loop.fours at-loop.loop.ended at-loop.loop.next at-args.args.from.now at-args.args.to.now at-args.args.fixed.streams)) at-number.number.ensures) _ _ at-m3.m3.given.1 _ at-place-in.place_in.ensures _ (at-go-on.go_on.ensures _ _ _) _ _ (at-keep.keep.ensures.done _ at_p.p.given.1)
 
 pub draw-spec : {M : Type 1} → statement M
 draw-spec =
