@@ -7,9 +7,6 @@ use native.Mathlib.Omega.{arith}
 use lib.Dec.{eqb, leb}
 use lib.ListN.{length}
 use borrow.Author.Tests.{leb-true, le-leb, eqb-true, eqb-false, eq-eqb}
-use types.Run.{OneOf, miss}
-use denote.Enum.Declared.{tag_of}
-use Rattle.rules.specs.contracts.Stage.{the_type}
 use Rattle.basics.proofs.BoolLaws.{and_left, and_also, clash}
 use Rattle.rules.specs.declared.Base.{Base}
 use Rattle.rules.specs.declared.End.{End}
@@ -35,14 +32,14 @@ use Rattle.many.specs.Inner.{Passable}
 
 -- ---- a run that goes on
 
--- neither of the first two variants is the third
-pub told_going : (t u : Stage) → t ≡ u → OneOf (0 ∷ 1 ∷ []) (tag_of the_type t) → Going u
+-- a run that is not over goes on
+pub told_going : (t u : Stage) → t ≡ u → ((x : End) → t ≡ Over x → ⊥) → Going u
 told_going t u e k = subst Going e (go t k)
   where
-    go : (w : Stage) → OneOf (0 ∷ 1 ∷ []) (tag_of the_type w) → Going w
+    go : (w : Stage) → ((x : End) → w ≡ Over x → ⊥) → Going w
     go Fresh j = tt
     go (After p) j = tt
-    go (Over f) j = miss (0 ∷ 1 ∷ []) 2 tt j
+    go (Over f) j = absurd (j f refl)
 
 -- ---- the test of the columns
 

@@ -12,15 +12,15 @@ returns-in-Over c =
 
 pub returns-then-not-even : goal.returns-then-not-even
 returns-then-not-even c =
-    uneven_given _ c.are_even-even.ensures (told_going _ _ c.stage-stage.ensures c.in_default.keys2) _ c.none_passed-then-not-even.ensures (c.if-not-even.true)
+    uneven_given _ c.are_even-even.ensures (told_going _ _ c.stage-stage.ensures c.in_default.not-Over) _ c.none_passed-then-not-even.ensures (c.if-not-even.true)
 
 pub returns-then-not-is_right : goal.returns-then-not-is_right
 returns-then-not-is_right c =
-    wrong_given _ c.are_even-even.ensures (told_going _ _ c.stage-stage.ensures c.in-Over.keys2) _ c.none_passed-then-not-is_right.ensures c.if-even-bases.false (c.if-not-even.false) (record { ring = c.ring-ring.ensures; is = c.is_right.ensures }) (c.if-not-is_right.true)
+    wrong_given _ c.are_even-even.ensures (told_going _ _ c.stage-stage.ensures c.in_default.not-Over) _ c.none_passed-then-not-is_right.ensures c.if-even-bases.false (c.if-not-even.false) (record { ring = c.ring-ring.ensures; is = c.is_right.ensures }) (c.if-not-is_right.true)
 
 pub pass-requires : goal.pass-requires
 pass-requires c =
-    passable _ c.are_even-even.ensures (told_going _ _ c.stage-stage.ensures c.in-Over.keys2) c.if-even-bases.false (c.if-not-even.false) (record { ring = c.ring-ring.ensures; is = c.is_right.ensures }) (c.if-not-is_right.false)
+    passable _ c.are_even-even.ensures (told_going _ _ c.stage-stage.ensures c.in_default.not-Over) c.if-even-bases.false (c.if-not-even.false) (record { ring = c.ring-ring.ensures; is = c.is_right.ensures }) (c.if-not-is_right.false)
 
 pub returns : goal.returns
 returns c =

@@ -11,21 +11,11 @@ use Rattle.runs.proofs.Flat.{heads_flat}
 use Rattle.many.proofs.Passing.{Job, begins, answers_as, count_place, ready, over_out, refused_out, more_place, more_fit, found_out, fewer, at_most}
 use Rattle.many.proofs.pass.Goals as goal
 
--- every array has its eight places, as its type says
-shaped : (c : tie.Start invariant-loop decreases-loop) → Shaped (heads_of c.args.run)
-shaped c = search rules
-
 pub loop-going-init : goal.loop-going-init
 loop-going-init c =
-    let job : Job = record {
-  s = cols c.args.chrom.now c.args.start.now c.args.stop.now;
-  lengths = c.args.lengths.now;
-  t = cols c.args.bchrom.now c.args.bstart.now c.args.bstop.now;
-  v = c.args.run;
-  l = lent c.args.queue.now c.args.answers.now;
-  ns = c.args.counts.now;
-} in
-    begins job c.requires (shaped (at_pre)) _ (rw c.fours-fours.ensures (heads_flat (heads_of c.args.run) (shaped (at_pre)))) _ c.ring-ring.ensures
+    let job : Job = record { s = cols c.args.chrom.now c.args.start.now c.args.stop.now; lengths = c.args.lengths.now; t = cols c.args.bchrom.now c.args.bstart.now c.args.bstop.now; v = c.args.run; l = lent c.args.queue.now c.args.answers.now; ns = c.args.counts.now } in
+    let shaped : Shaped (heads_of c.args.run) = search rules in
+    begins job c.requires shaped _ (rw c.fours-fours.ensures (heads_flat (heads_of c.args.run) shaped)) _ c.ring-ring.ensures
 
 pub base_at-b-requires : goal.base_at-b-requires
 base_at-b-requires c =
