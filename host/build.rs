@@ -28,8 +28,8 @@ fn link(name: &str) {
     println!("cargo:rerun-if-changed={}", archive.display());
     if !archive.is_file() {
         stop(&format!(
-            "{} is not there. Run 'rt staticlib {name}' in the repository's root folder, which proves the library and \
-             writes it, or let CEDARLASH_LIB name the folder that has it. ('--no-default-features' builds without it.)",
+            "{} is not there. Run 'rt lib' in crates/{name}, which proves the library and writes it to crates/{name}/out, \
+             and copy it, or let CEDARLASH_LIB name the folder that has it. ('--no-default-features' builds without it.)",
             archive.display()
         ));
     }

@@ -1,5 +1,5 @@
 -- The facts behind 1's test: what a run and what is lent with a base keep to where 1 is not due.
-use Rattle.std.specs.Prelude.{◌≡◌, Bool, true, false, List, ℕ, ◌<◌, ◌≤◌, length, get_or}
+use Rattle.std.specs.Prelude.{◌≡◌, true, false, List, ℕ, ◌<◌, ◌≤◌, length, get_or}
 use Rattle.basics.specs.Lists.{All}
 use Rattle.heads.specs.Move.{PlacedIn}
 use Rattle.queue.specs.declared.Ring.{Ring}

@@ -1,5 +1,5 @@
 -- What 1 asks: "a size above (other than a name's) is broken, lent columns differ in length, or a run or its queue names no lent stream or row".
-use Rattle.std.specs.Prelude.{Bool, false, ◌&&◌, ◌||◌, List, ℕ, ◌-◌, eqb, leb, ltb, get_or}
+use Rattle.std.specs.Prelude.{Bool, ◌&&◌, ◌||◌, List, ℕ, ◌-◌, eqb, leb, ltb, get_or}
 use Rattle.basics.specs.Build.{upto}
 use Rattle.basics.specs.Lists.{all}
 use Rattle.rules.specs.Start.{sized}

@@ -1,6 +1,6 @@
 -- Laws of tests that are joined: `&&`, `||`, and cases on a test.
-use mathlib.Core.Path.{◌≡◌, refl, sym, ap, ◌∙◌}
-use mathlib.Core.Bool.{Bool, true, false, cond, not, ◌&&◌, ◌||◌, true≢false}
+use mathlib.Core.Path.{◌≡◌, refl, sym, ◌∙◌}
+use mathlib.Core.Bool.{Bool, true, false, ◌&&◌, ◌||◌, true≢false}
 use Rattle.basics.specs.Lists.{Says}
 
 pub and_comm : (u v : Bool) → u && v ≡ v && u

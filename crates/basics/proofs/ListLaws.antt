@@ -1,13 +1,13 @@
 -- Laws of lists: what a test keeps, the start that passes, facts of each element, order, pairs.
-use mathlib.Core.Path.{◌≡◌, refl, sym, ap, ◌∙◌}
-use mathlib.Core.Bool.{Bool, true, false, cond, not, ◌&&◌}
+use mathlib.Core.Path.{◌≡◌, refl, ◌∙◌}
+use mathlib.Core.Bool.{Bool, true, false, cond, ◌&&◌}
 use mathlib.Core.List.{List, [], ◌∷◌, ◌++◌, append-nil, map}
-use mathlib.Core.Option.{Option, some}
+use mathlib.Core.Option.{some}
 use Prim.Native.Nat.{ℕ, suc, ◌≤◌}
 use native.Mathlib.Omega.{arith}
 use lib.ListN.{length, get_or}
 use Rattle.basics.proofs.BoolLaws.{and_false, and_true, and_drop, and_left, and_also, clash}
-use Rattle.basics.specs.Lists.{keep, filter, front, back, first_one, first, all, All, nil, cons, Pairs, Sorted, next, Has, here, there}
+use Rattle.basics.specs.Lists.{keep, filter, front, back, first, all, All, nil, cons, Pairs, Sorted, next, Has, here, there}
 
 module _ {A : Type 0} where
   keep_append : (t : Bool) (x : A) (l m : List A) → keep t x (l ++ m) ≡ keep t x l ++ m

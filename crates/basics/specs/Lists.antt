@@ -1,5 +1,5 @@
 -- Lists: what a test keeps, the longest start that passes it, a fact of each element, order.
-use Rattle.std.specs.Prelude.{◌≡◌, Bool, true, false, cond, not, ◌&&◌, List, [], ◌∷◌, ◌++◌, ℕ, ◌+◌, length}
+use Rattle.std.specs.Prelude.{◌≡◌, Bool, true, false, cond, ◌&&◌, List, [], ◌∷◌, ℕ, ◌+◌, length}
 use Rattle.std.proofs.Math.Option.{Option}
 
 -- a test decides a statement: where it passes the statement holds, where it fails it does not

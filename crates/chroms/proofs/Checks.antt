@@ -1,18 +1,18 @@
 -- Laws of a check of names, one name at a time. Assumes nothing.
-use Prim.Native.Nat.{ℕ, suc, ◌+◌, ◌-◌, ◌≤◌, ◌<◌}
-use mathlib.Core.Path.{◌≡◌, refl, sym, ap, ◌∙◌}
-use mathlib.Core.List.{List, [], ◌∷◌}
+use Prim.Native.Nat.{ℕ, ◌+◌, ◌-◌, ◌≤◌, ◌<◌}
+use mathlib.Core.Path.{◌≡◌, refl, ◌∙◌}
+use mathlib.Core.List.{List}
 use mathlib.Core.Bool.{Bool, true, false, cond, ◌&&◌}
 use native.Mathlib.Omega.{arith}
 use native.Mathlib.Nat.{zero-add}
 use lib.ListN.{length, get_or, drop, length-drop}
-use lib.Dec.{leb, eqb}
+use lib.Dec.{leb}
 use borrow.Author.Tests.{le-leb, lt-leb, eq-eqb, ne_eqb}
 use Rattle.fields.specs.Names.{part, within, names, number_in}
 use Rattle.fields.proofs.Both.{and_no}
 use Rattle.fields.proofs.Scan.{rest_none}
 use Rattle.fields.proofs.Naming.{within_even, within_from, within_low, within_high, names_cons, names_length, part_length}
-use Rattle.chroms.specs.Check.{counted, named, absent, all_named, fine_at, check_of, found_of, lookup_number}
+use Rattle.chroms.specs.Check.{absent, all_named, fine_at, check_of, found_of, lookup_number}
 use Rattle.chroms.specs.declared.Check.TheVariants.{Fine, Sizes, Names}
 use Rattle.chroms.specs.declared.Lookup.TheVariants.{Number, Refused}
 

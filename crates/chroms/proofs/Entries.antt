@@ -1,18 +1,18 @@
 -- What the bytes of a chromosome line say of it, field by field. Assumes nothing.
-use Prim.Native.Nat.{ℕ, suc, ◌+◌, ◌≤◌, ◌<◌}
+use Prim.Native.Nat.{ℕ, ◌+◌, ◌<◌}
 use mathlib.Core.Path.{◌≡◌, refl, sym, ap, ◌∙◌}
 use mathlib.Core.List.{List, [], ◌∷◌}
 use native.Mathlib.Omega.{arith}
 use lib.ListN.{length, get_or, drop}
 use Rattle.fields.specs.Cut.{cut}
-use Rattle.fields.specs.Number.{Read, good, bad, number_of}
+use Rattle.fields.specs.Number.{good, bad, number_of}
 use Rattle.fields.specs.Table.{read_text}
 use borrow.Author.Tests.{eq-eqb}
 use Rattle.fields.specs.Scan.{line_at, field_at, next_line, number_at, FieldTo}
 use Rattle.fields.specs.declared.Number.TheVariants.{Value, Bad}
 use Rattle.fields.proofs.Lines.{further, field_to, fields_are, fields_none, fields_out, fields_tab, next_none, next_lf, next_tab, stops_lf, stops_tab}
 use Rattle.fields.proofs.Numbers.{number_bad, number_good, number_to}
-use Rattle.chroms.specs.Entry.{unknown, entry, sized, entry_from, entry_of, list_found, ReadsLine, gives, leads}
+use Rattle.chroms.specs.Entry.{unknown, entry_from, entry_of, list_found, ReadsLine, gives, leads}
 use Rattle.chroms.specs.declared.Entry.{Entry}
 use Rattle.chroms.specs.declared.Line.{Line}
 use Rattle.chroms.specs.declared.Line.TheVariants.{Is, Not}

@@ -5,7 +5,6 @@ use mathlib.Core.List.{List}
 use Prim.Native.Nat.{ℕ}
 use Rattle.rules.specs.declared.Base.{Base}
 use Rattle.rules.specs.declared.Refusal.{Refusal}
-use Rattle.rules.specs.declared.Stage.TheVariants.{After}
 use Rattle.rules.specs.Call.{Reply, found, refused, ended, column}
 use Rattle.rules.specs.Call as rules
 use Rattle.heads.specs.View.{Heads}
@@ -14,7 +13,7 @@ use Rattle.queue.specs.declared.Ring.{Ring}
 use Rattle.queue.specs.Ring.{waiting}
 use Rattle.runs.specs.declared.Run.{Run}
 use Rattle.runs.specs.declared.Given.{Given}
-use Rattle.runs.specs.View.{heads_of, run_in, run_of, ring_of, stage_of}
+use Rattle.runs.specs.View.{heads_of, run_in, ring_of, stage_of}
 use Rattle.pulls.specs.Pulls.{drawn_to, Found, Lent}
 use Rattle.step.specs.Settle.{run_by}
 use Rattle.step.specs.Give.{opened_by, Gives}

@@ -4,7 +4,7 @@ use mathlib.Core.Path.{◌≡◌, refl, sym, ap, subst, ◌∙◌}
 use mathlib.Core.Bool.{Bool, true, false, cond}
 use mathlib.Core.Option.{Option, none, some}
 use mathlib.Core.List.{List, [], ◌∷◌, ◌++◌}
-use Prim.Native.Nat.{ℕ, zero, suc, ◌≤◌, ◌<◌}
+use Prim.Native.Nat.{ℕ, zero, suc, ◌≤◌}
 use native.Mathlib.Omega.{arith}
 use lib.Dec.{leb, ltb}
 use lib.ListN.{length, length-append, get_or}
@@ -24,7 +24,7 @@ use Rattle.rules.specs.Overlap.{taken, live, overlaps}
 use Rattle.rules.specs.Offer.{offer}
 use Rattle.rules.specs.Pull.{Pull, paused, ends, unless_wrong, turn, turns, pull}
 use Rattle.rules.specs.Bases.{in_order, beyond, judge}
-use Rattle.rules.specs.Call.{Run, Reply, found, refused, ended, Given, Lent, refuse, end, loading, coming, after_pull, pulling, accept, judged, by_stage, give}
+use Rattle.rules.specs.Call.{Run, Reply, found, refused, ended, Lent, refuse, end, loading, coming, after_pull, pulling, accept, judged, by_stage, give}
 use Rattle.rules.specs.Job.{lending}
 
 -- ---- a pull leaves no more than Q

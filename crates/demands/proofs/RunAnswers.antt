@@ -1,23 +1,22 @@
 -- What the bases get by the calls of a run is what the rules' own run gives them: for every job, room and number of streams.
 use mathlib.Core.Path.{◌≡◌, refl, sym, ap, subst, ◌∙◌}
 use mathlib.Core.Bool.{Bool, true, false}
-use mathlib.Core.List.{List, [], ◌∷◌}
-use Prim.Native.Nat.{ℕ, ◌≤◌}
+use mathlib.Core.List.{List}
+use Prim.Native.Nat.{ℕ}
 use native.Mathlib.Omega.{arith}
 use lib.ListN.{length}
 use Rattle.rules.specs.declared.Base.{Base}
 use Rattle.rules.specs.declared.End.{End}
-use Rattle.rules.specs.declared.Refusal.{Refusal}
 use Rattle.rules.specs.declared.Refusal.TheVariants.{Sizes}
 use Rattle.rules.specs.declared.Stage.{Stage}
 use Rattle.rules.specs.declared.Stage.TheVariants.{Fresh, After, Over}
 use Rattle.rules.specs.declared.Answer.TheVariants as answer
 use Rattle.rules.specs.Call.{Reply, found, refused, ended, answer_of, column, refuse, fresh, give}
 use Rattle.rules.specs.Call as rules
-use Rattle.rules.specs.Job.{lending, onward, replies, answers}
+use Rattle.rules.specs.Job.{lending, replies, answers}
 use Rattle.heads.specs.View.{Cols}
 use Rattle.basics.specs.Lists.{Pairs}
-use Rattle.queue.specs.Ring.{Cells, waiting}
+use Rattle.queue.specs.Ring.{Cells}
 use Rattle.queue.specs.Deeds.{answer_row}
 use Rattle.queue.proofs.Waiting.{length_waiting}
 use Rattle.admit.specs.Gates.{lengths_of}
@@ -26,13 +25,12 @@ use Rattle.admit.proofs.RightLaws.{right_fits, fits_right}
 use Rattle.runs.specs.declared.Run.{Run}
 use Rattle.runs.specs.declared.Given.{Given}
 use Rattle.runs.specs.declared.start.Begins.{Begins}
-use Rattle.runs.specs.declared.start.Begins.TheVariants.{Begun}
 use Rattle.runs.specs.View.{heads_of, run_of, ring_of, stage_of}
 use Rattle.pulls.specs.Pulls.{drawn_to, Lent, lent}
 use Rattle.step.specs.Settle.{run_by}
-use Rattle.step.specs.Give.{opened_by, Gives}
+use Rattle.step.specs.Give.{opened_by}
 use Rattle.runs.specs.Comes.{lens_of, right_of, given_of}
-use Rattle.runs.specs.Start.{Plan, streams_of, run_from, start_of}
+use Rattle.runs.specs.Start.{Plan, run_from}
 use Rattle.runs.proofs.StartLaws.{begun_fresh}
 use Rattle.demands.specs.Calls.{Unheeded, Came, Calls, none, call, unheeded, job_of, Runs}
 use Rattle.demands.proofs.Shown.{Shows}

@@ -1,16 +1,16 @@
 -- The first line of a text and its fields, by place: what `cut` gives from a place on. Assumes nothing.
-use Prim.Native.Nat.{ℕ, zero, suc, ◌+◌, ◌-◌, ◌≤◌, ◌<◌, min}
-use mathlib.Core.Path.{◌≡◌, refl, sym, ap, ◌∙◌}
+use Prim.Native.Nat.{ℕ, suc, ◌+◌, ◌≤◌, ◌<◌}
+use mathlib.Core.Path.{◌≡◌, refl, ap, ◌∙◌}
 use mathlib.Core.List.{List, [], ◌∷◌}
 use mathlib.Core.Bool.{Bool, true, false, cond, not, ◌&&◌, true≢false}
 use native.Mathlib.Omega.{arith}
 use lib.ListN.{length, get_or, drop, length-drop}
 use lib.Seq.{drop-drop, get_or-drop}
-use lib.Dec.{eqb, ltb}
+use lib.Dec.{eqb}
 use borrow.Author.Tests.{eq-eqb, ne_eqb, eqb-true}
 use Rattle.fields.specs.Cut.{cut, onto}
 use Rattle.fields.specs.Scan.{front, in_line, in_field, line_at, field_at, next_line, FieldTo}
-use Rattle.fields.proofs.Scan.{rest_cons, rest_none, front_in, front_out, front_none, front_within, lf_ends, line_in, field_in}
+use Rattle.fields.proofs.Scan.{rest_cons, rest_none, front_in, front_out, front_none, front_within, lf_ends, line_in}
 
 -- the lines behind the first: none where no LF ends it
 abbrev pub behind : List ℕ → List (List ℕ)

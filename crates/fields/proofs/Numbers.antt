@@ -1,16 +1,16 @@
 -- Laws of `number_at`, by a walk over the digits of a field. Assumes nothing.
-use Prim.Native.Nat.{ℕ, zero, suc, ◌+◌, ◌-◌, ◌*◌, ◌^◌, ◌≤◌, ◌<◌}
-use mathlib.Core.Path.{◌≡◌, refl, sym, ap, ◌∙◌}
+use Prim.Native.Nat.{ℕ, suc, ◌+◌, ◌-◌, ◌*◌, ◌^◌, ◌≤◌, ◌<◌}
+use mathlib.Core.Path.{◌≡◌, refl, ap, ◌∙◌}
 use mathlib.Core.List.{List, [], ◌∷◌}
-use mathlib.Core.Bool.{Bool, true, false, cond, ◌&&◌}
+use mathlib.Core.Bool.{Bool, true, false, ◌&&◌}
 use native.Mathlib.Omega.{arith}
 use native.Mathlib.Decide.{dec_lt}
 use native.Mathlib.Nat.{le_refl, sub_self, pow-succ', pow-le-pow_right}
 use lib.ListN.{length, get_or}
 use lib.Dec.{leb}
 use borrow.Author.Tests.{le-leb, lt-leb}
-use Rattle.fields.specs.Number.{Read, good, bad, is_digit, digits, value, is_number, number_of}
-use Rattle.fields.specs.Scan.{front, in_field, field_at, number_read, number_at, Walk, Counting, Counted, FieldTo}
+use Rattle.fields.specs.Number.{Read, good, bad, is_digit, digits, value, number_of}
+use Rattle.fields.specs.Scan.{in_field, field_at, number_read, number_at, Counting, FieldTo}
 use Rattle.fields.specs.declared.Number.TheVariants.{Value, Bad}
 use Rattle.fields.proofs.Both.{and_no}
 use Rattle.fields.proofs.Scan.{front_in, front_out, front_none, front_within, walk_start, walk_in, field_in}

@@ -1,5 +1,5 @@
 -- Reading a text line by line, for any kind of row: what is left of the text gives the rest of what is found. Assumes nothing.
-use Prim.Native.Nat.{ℕ, zero, suc, pred, ◌+◌, ◌-◌, ◌≤◌, ◌<◌, min}
+use Prim.Native.Nat.{ℕ, suc, pred, ◌+◌, ◌-◌, ◌≤◌, ◌<◌}
 use mathlib.Core.Path.{◌≡◌, refl, sym, ap, ◌∙◌}
 use mathlib.Core.List.{List, [], ◌∷◌, ◌++◌, map, map-append, append_assoc}
 use mathlib.Core.Bool.{Bool, true, false, cond}
@@ -8,14 +8,14 @@ use native.Mathlib.Decide.{dec_lt}
 use native.Mathlib.Nat.{sub-zero, add-zero}
 use native.Mathlib.Numerals.{add-one}
 use lib.ListN.{length, get_or, set, take, drop, length-map, length-drop, length-set}
-use lib.Seq.{drop-drop, drop-cons, take_all, take-suc, get_or-drop, set_at, length-take-le}
+use lib.Seq.{drop-drop, take_all, take-suc, get_or-drop, set_at, length-take-le}
 use borrow.Author.Tests.{eq-eqb, ne_eqb}
 use Rattle.fields.specs.Cut.{cut}
 use Rattle.fields.specs.Number.{Read, good, bad}
-use Rattle.fields.specs.Table.{End, whole, malformed, full, Found, passed, refused, ends, ahead, row_step, read_lines, read_text, written, answer, Fills}
+use Rattle.fields.specs.Table.{End, whole, malformed, full, Found, passed, refused, ends, ahead, row_step, read_lines, read_text, answer, Fills}
 use Rattle.fields.specs.declared.Reading.{Reading}
 use Rattle.fields.specs.declared.Reading.TheVariants.{Whole, Malformed, Full, Refused}
-use Rattle.fields.specs.Scan.{front, in_line, line_at, next_line, Past}
+use Rattle.fields.specs.Scan.{in_line, line_at, next_line, Past}
 use Rattle.fields.proofs.Scan.{rest_cons, rest_none, front_in, front_out, front_within, lf_ends, line_in}
 use Rattle.fields.proofs.Lines.{lines_first, behind}
 

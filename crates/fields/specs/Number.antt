@@ -1,5 +1,5 @@
 -- What a number in a text is.
-use Rattle.std.specs.Prelude.{ℕ, ◌+◌, ◌-◌, ◌*◌, ◌^◌, List, [], ◌∷◌, Bool, true, cond, ◌&&◌, length, ltb, leb}
+use Rattle.std.specs.Prelude.{ℕ, ◌+◌, ◌-◌, ◌*◌, List, [], ◌∷◌, Bool, true, cond, ◌&&◌, length, leb}
 
 -- what a field or a line gives: a value, or it is malformed
 pub data Read (A : Type 0) : Type 0 where

@@ -8,7 +8,6 @@ use Rattle.rules.specs.declared.Row.{Row}
 use Rattle.rules.specs.declared.End.{End}
 use Rattle.rules.specs.declared.End.TheVariants.{Faulty, Unsorted}
 use Rattle.rules.specs.Rows.{Record, good, behind, fault}
-use Rattle.heads.specs.declared.Check.{Check}
 use Rattle.heads.specs.declared.Check.TheVariants as check
 use Rattle.heads.specs.Move.{check_of}
 

@@ -2,7 +2,7 @@
 use mathlib.Core.Path.{◌≡◌, refl, ap, ◌∙◌}
 use mathlib.Core.List.{List, [], ◌∷◌, map}
 use Prim.Native.Nat.{ℕ, zero, suc}
-use lib.ListN.{length, get_or, set, get_or-map}
+use lib.ListN.{get_or, set, get_or-map}
 use Rattle.basics.specs.Build.{build}
 use Rattle.basics.proofs.BuildLaws.{build_same}
 use Rattle.rules.specs.declared.Base.{Base}
@@ -12,7 +12,7 @@ use Rattle.rules.specs.Streams.{ahead}
 use Rattle.least.specs.Fours.{left_at}
 use Rattle.heads.specs.declared.Next.{Next}
 use Rattle.heads.specs.declared.Move.{Move}
-use Rattle.heads.specs.View.{Cols, Heads, column_in, heads_by, rest_at, rests_of}
+use Rattle.heads.specs.View.{Cols, column_in, heads_by, rest_at, rests_of}
 use Rattle.heads.specs.Move.{move_of, turn_of, behind_by, goes_at}
 
 map_set : {A B : Type 0} (f : A → B) (l : List A) (i : ℕ) (x : A) → map f (set l i x) ≡ set (map f l) i (f x)

@@ -1,26 +1,24 @@
 -- Loading the first heads: what is left of each stream is then its rows, and the first fault is the one that is named.
 use mathlib.Core.Path.{◌≡◌, refl, sym, ap, ◌∙◌}
 use mathlib.Core.Bool.{Bool, true, false, cond}
-use mathlib.Core.Option.{Option, none, some}
-use mathlib.Core.List.{List, [], ◌∷◌}
+use mathlib.Core.Option.{none, some}
 use Prim.Native.Nat.{ℕ, zero, suc, ◌+◌, ◌-◌, ◌<◌, ◌≤◌}
 use native.Mathlib.Omega.{arith}
 use lib.Dec.{leb, eqb}
-use lib.ListN.{length, length-set, get_or, set}
+use lib.ListN.{length, length-set, get_or}
 use lib.Seq.{get_or-set_same, get_or-set_other}
 use borrow.Author.Tests.{le-leb, lt-leb, leb-true, leb-false, eqb-true, eqb-false}
 use Rattle.basics.specs.Build.{build}
 use Rattle.basics.proofs.BuildLaws.{build_front, build_none, build_same, set_raise}
 use Rattle.rules.specs.declared.End.{End}
-use Rattle.rules.specs.Rows.{Record, fault}
+use Rattle.rules.specs.Rows.{fault}
 use Rattle.heads.specs.declared.Next.{Next}
 use Rattle.heads.specs.declared.Check.{Check}
 use Rattle.heads.specs.declared.Check.TheVariants as the-check
 use Rattle.rules.specs.Streams.{else, check}
 use Rattle.rules.specs.Call.{loading}
-use Rattle.heads.specs.View.{Cols, Heads, row_at, rows_from, behind_at, head_at, rest_at, rests_of, fresh_of}
-use Rattle.least.specs.Fours.{is_ended, unless_ended}
-use Rattle.heads.specs.Move.{next_record, check_of, next_of, ends_at, goes_at, Placed, Shaped}
+use Rattle.heads.specs.View.{Cols, Heads, row_at, behind_at, rest_at, rests_of, fresh_of}
+use Rattle.heads.specs.Move.{next_record, check_of, ends_at, goes_at, Placed, Shaped}
 use Rattle.heads.specs.Load.{first_of, load_one, load_to, wrong_first, BeginsAs, LoadsAs}
 use Rattle.heads.proofs.CheckLaws.{check_fine, check_wrong}
 
@@ -85,17 +83,17 @@ module _ (s : Cols) (h : Heads) (k : ℕ) (in8 : Shaped h) (p : Placed s h.strea
   opened_goes e =
       let in_c : k < length h.chrom = omega (arith, in8.chrom, p.few) in
       let in_a : k < length h.start = omega (arith, in8.start, p.few) in
-      let inE : k < length h.stop = omega (arith, in8.stop, p.few) in
+      let in_e : k < length h.stop = omega (arith, in8.stop, p.few) in
       let in_r : k < length h.row = omega (arith, in8.row, p.few) in
       let in_d : k < length h.ended = omega (arith, in8.ended, p.few) in
-      let inN : k < length h.next = omega (arith, in8.next, p.few) in
+      let in_n : k < length h.next = omega (arith, in8.next, p.few) in
       record {
         shaped = record { chrom = length-set h.chrom k _ ∙ in8.chrom; start = length-set h.start k _ ∙ in8.start; stop = length-set h.stop k _ ∙ in8.stop; row = length-set h.row k _ ∙ in8.row; ended = length-set h.ended k 0 ∙ in8.ended; next = length-set h.next k _ ∙ in8.next };
         placed = record { few = p.few; starts = p.starts; stops = p.stops; low = λ j b. omega (arith, p.low j b, set_raise h.next k (get_or h.next k 0 + 1) j (omega arith)); high = p.high };
         streams = refl;
         from = refl;
         to = refl;
-        here = rw (build_front (row_at s (get_or h.from k 0) k) (get_or h.to k 0) (get_or h.next k 0) e) (simp (get_or-set_same, in_c, in_a, inE, in_r, in_d, inN));
+        here = rw (build_front (row_at s (get_or h.from k 0) k) (get_or h.to k 0) (get_or h.next k 0) e) (simp (get_or-set_same, in_c, in_a, in_e, in_r, in_d, in_n));
         rest = λ j f. simp get_or-set_other;
         next = λ j f. get_or-set_other h.next k j _ 0 f;
       }

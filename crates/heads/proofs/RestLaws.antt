@@ -1,10 +1,9 @@
 -- What a turn does to what is left of each stream.
 use mathlib.Core.Path.{◌≡◌, refl, sym, ap, ◌∙◌}
 use mathlib.Core.Bool.{Bool, true, false, cond}
-use mathlib.Core.Logic.{◌≢◌}
 use mathlib.Core.Option.{Option}
 use mathlib.Core.List.{List, [], ◌∷◌, ◌++◌}
-use Prim.Native.Nat.{ℕ, zero, suc, ◌+◌, ◌-◌, ◌<◌, ◌≤◌}
+use Prim.Native.Nat.{ℕ, zero, suc, ◌+◌, ◌<◌, ◌≤◌}
 use native.Mathlib.Omega.{arith}
 use lib.Dec.{eqb, leb}
 use lib.ListN.{length, length-set, get_or, set}
@@ -21,7 +20,6 @@ use Rattle.rules.specs.Merge.{Pick, none, one, pick}
 use Rattle.rules.specs.Streams.{ahead, next}
 use Rattle.rules.specs.Overlap.{taken, live}
 use Rattle.rules.specs.Pull.{Pull, paused, ends, unless_wrong, turn, pull}
-use Rattle.theory.proofs.MergeLaws.{Took, picked}
 use Rattle.theory.proofs.Turns.{pull_turn}
 use Rattle.heads.specs.View.{Heads}
 use Rattle.least.specs.declared.Best.{Best}
@@ -78,12 +76,12 @@ module _ (s : Cols) (h : Heads) (k : ℕ) (in8 : Shaped h) (few : h.streams ≤ 
   goes_rests x =
       let in_c : k < length h.chrom = omega (arith, in8.chrom) in
       let in_a : k < length h.start = omega (arith, in8.start) in
-      let inE : k < length h.stop = omega (arith, in8.stop) in
+      let in_e : k < length h.stop = omega (arith, in8.stop) in
       let in_r : k < length h.row = omega (arith, in8.row) in
       let in_d : k < length h.ended = omega (arith, in8.ended) in
-      let inN : k < length h.next = omega (arith, in8.next) in
+      let in_n : k < length h.next = omega (arith, in8.next) in
       build_set0 (rest_at s h) (rest_at s (goes_at h k x)) h.streams k below (λ m a. simp get_or-set_other)
-      ∙ simp (get_or-set_same, in_c, in_a, inE, in_r, in_d, inN)
+      ∙ simp (get_or-set_same, in_c, in_a, in_e, in_r, in_d, in_n)
 
 -- ---- a turn
 

@@ -1,13 +1,12 @@
 -- What a loop of turns cites: the heads stay in place, each turn that takes a head leaves one row less, and the last one shows the least head.
-use mathlib.Core.Path.{◌≡◌, refl, sym, ap, subst, ◌∙◌}
+use mathlib.Core.Path.{◌≡◌, sym, subst, ◌∙◌}
 use mathlib.Core.Bool.{Bool, true, false, cond}
 use mathlib.Core.Option.{Option}
 use mathlib.Core.List.{List, [], ◌∷◌}
-use Prim.Native.Nat.{ℕ, suc, ◌+◌, ◌<◌, ◌≤◌}
+use Prim.Native.Nat.{ℕ, suc, ◌+◌, ◌<◌}
 use native.Mathlib.Omega.{arith}
 use lib.ListN.{get_or}
 use Rattle.basics.specs.Lists.{total}
-use Rattle.basics.specs.Build.{build}
 use Rattle.rules.specs.declared.Base.{Base}
 use Rattle.rules.specs.declared.End.{End}
 use Rattle.rules.specs.Rows.{Record}
@@ -17,14 +16,12 @@ use Rattle.rules.specs.Overlap.{taken, live}
 use Rattle.heads.specs.View.{Heads}
 use Rattle.least.specs.declared.Best.{Best}
 use Rattle.heads.specs.declared.Taken.{Taken}
-use Rattle.heads.specs.declared.Next.{Next}
 use Rattle.heads.specs.declared.Then.{Then}
 use Rattle.heads.specs.declared.Move.{Move}
 use Rattle.heads.specs.declared.Move.TheVariants as move
-use Rattle.heads.specs.View.{Cols, fours_of, rests_of}
-use Rattle.least.specs.Fours.{left_at}
+use Rattle.heads.specs.View.{Cols, rests_of}
 use Rattle.least.specs.Least.{head_of, best_of}
-use Rattle.heads.specs.Move.{move_of, takes, taken_of, behind_by, Placed, Shaped, turn_at, moved, taken_record}
+use Rattle.heads.specs.Move.{move_of, takes, taken_of, Placed, Shaped, turn_at, moved, taken_record}
 use Rattle.heads.proofs.RestLaws.{Shorter, shorter, InPlace, in_place, moved_placed, moved_shaped, move_here, taken_same, stands, stayed}
 
 -- the heads are placed, and each array has its eight places

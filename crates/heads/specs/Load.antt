@@ -1,6 +1,6 @@
 -- "Heads are loaded at the first accepted base, stream 0 first, each checked; the first fault ends the run."
-use Rattle.std.specs.Prelude.{◌≡◌, Bool, true, false, cond, List, ℕ, zero, suc, ◌+◌, leb, get_or}
-use Rattle.std.proofs.Math.Option.{Option, none, some}
+use Rattle.std.specs.Prelude.{◌≡◌, cond, ℕ, zero, suc, ◌+◌, leb, get_or}
+use Rattle.std.proofs.Math.Option.{Option, none}
 use Rattle.rules.specs.declared.End.{End}
 use Rattle.rules.specs.Rows.{fault}
 use Rattle.rules.specs.Call.{loading}

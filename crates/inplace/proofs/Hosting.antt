@@ -1,11 +1,10 @@
 -- A host's calls on a run that it keeps in place are calls that give its bases one by one, so all that is promised of such calls holds of what it sees.
-use mathlib.Core.Path.{◌≡◌, refl, sym, ap, subst, ◌∙◌}
-use mathlib.Core.List.{List, [], ◌∷◌, ◌++◌}
+use mathlib.Core.Path.{◌≡◌, refl, ap, subst}
+use mathlib.Core.List.{List, [], ◌++◌}
 use Prim.Native.Nat.{ℕ}
 use native.Mathlib.Omega.{arith}
 use Rattle.basics.specs.Build.{build}
 use Rattle.rules.specs.declared.Base.{Base}
-use Rattle.rules.specs.declared.Unbegun.{Unbegun}
 use Rattle.rules.specs.declared.Unbegun.TheVariants as unbegun
 use Rattle.heads.specs.View.{Cols}
 use Rattle.queue.specs.Ring.{Cells}
@@ -15,17 +14,14 @@ use Rattle.runs.specs.declared.start.Begins.{Begins}
 use Rattle.runs.specs.declared.start.Begins.TheVariants as begins
 use Rattle.runs.specs.Start.{Plan, start_of}
 use Rattle.demands.specs.Calls.{Came, Calls, Runs}
-use Rattle.demands.specs.Calls as calls
 use Rattle.demands.proofs.Chained.{calls_then}
-use Rattle.many.specs.declared.Passed.{Passed}
-use Rattle.many.specs.Many.{base_at, Even}
+use Rattle.many.specs.Many.{base_at}
 use Rattle.many.specs.Chain.{Chain}
 use Rattle.many.proofs.Chains.{passes_calls}
 use Rattle.inplace.specs.declared.Swept.{Swept}
-use Rattle.inplace.specs.Told.{offered_of, stopped_of, swept_of}
+use Rattle.inplace.specs.Told.{offered_of}
 use Rattle.inplace.specs.Calls.{begun_number, BeginsInPlace, GivesInPlace}
 use Rattle.inplace.specs.Hosted.{Seen, Hosted, none, gave, uneven, Sees, Tells}
-use Rattle.inplace.specs.Hosted as hosted
 use Rattle.inplace.proofs.HostLaws.{uneven_unchanged}
 
 -- the bases that were given, what came of each, and that this is what was seen

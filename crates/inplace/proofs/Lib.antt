@@ -2,4 +2,3 @@
 pub mod CallLaws
 pub mod HostLaws
 pub mod Hosting
-pub mod Walking

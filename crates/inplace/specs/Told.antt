@@ -1,5 +1,5 @@
 -- "Where an answer is an enum, the promises use a definition that gives this paper's number and values for each of its cases."
-use Rattle.std.specs.Prelude.{ℕ, List, get_or}
+use Rattle.std.specs.Prelude.{ℕ, get_or}
 use Rattle.rules.specs.declared.Offer.{Offer}
 use Rattle.rules.specs.declared.Offer.TheVariants.{Nothing, Upto}
 use Rattle.rules.specs.declared.End.{End}

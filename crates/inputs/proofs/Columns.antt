@@ -1,7 +1,7 @@
 -- A part of the columns is filled with the rows of a text: what stands in it, and what stays ahead of it.
 use mathlib.Core.Path.{◌≡◌, refl, sym, ap, ◌∙◌}
-use mathlib.Core.List.{List, [], ◌∷◌, ◌++◌, map, append_assoc}
-use Prim.Native.Nat.{ℕ, zero, suc, ◌+◌, ◌-◌, ◌≤◌, ◌<◌, min}
+use mathlib.Core.List.{List, [], ◌∷◌, ◌++◌, map}
+use Prim.Native.Nat.{ℕ, zero, suc, ◌+◌, ◌≤◌, ◌<◌}
 use native.Mathlib.Omega.{arith}
 use lib.ListN.{length, get_or, take, drop, length-append, length-take, length-drop, length-map, get_or-append}
 use lib.Seq.{get_or-append-add, get_or-take}

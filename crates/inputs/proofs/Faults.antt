@@ -1,9 +1,9 @@
 -- What is wrong with a text, as it is read and as it is said; the first of several.
-use mathlib.Core.Path.{◌≡◌, refl, sym, ap, ◌∙◌}
+use mathlib.Core.Path.{◌≡◌, refl}
 use mathlib.Core.Bool.{Bool, true, false, cond, not, ◌&&◌}
 use mathlib.Core.Option.{Option, none, some}
 use mathlib.Core.List.{List, [], ◌∷◌}
-use Prim.Native.Nat.{ℕ, zero, suc, pred, ◌+◌, ◌≤◌, ◌<◌}
+use Prim.Native.Nat.{ℕ, zero, suc, pred, ◌+◌, ◌≤◌}
 use native.Mathlib.Omega.{arith}
 use lib.Dec.{leb}
 use lib.ListN.{length}
@@ -14,9 +14,9 @@ use Rattle.rules.specs.Start.{misnamed, refuses_start}
 use Rattle.fields.specs.Number.{Read, good, bad}
 use Rattle.fields.specs.Names.{within, names}
 use Rattle.fields.specs.Cut.{lines}
-use Rattle.fields.specs.Table.{End, whole, malformed, full, refused, Found, passed, row_step, read_lines, read_text, answer, rows_of}
+use Rattle.fields.specs.Table.{End, whole, malformed, full, refused, passed, row_step, read_lines, read_text, answer, rows_of}
 use Rattle.fields.proofs.Naming.{names_length}
-use Rattle.chroms.specs.Check.{counted, all_named, check_of}
+use Rattle.chroms.specs.Check.{check_of}
 use Rattle.chroms.specs.declared.Check.TheVariants as check
 use Rattle.runs.proofs.Starting.{names_agree}
 use Rattle.inputs.specs.Texts.{end_fault, unbegun_fault, settings_in}

@@ -1,12 +1,10 @@
 -- A text is read to its part of the columns.
 use mathlib.Core.Path.{◌≡◌, refl, sym, ap, subst, ◌∙◌}
-use mathlib.Core.Bool.{true}
-use mathlib.Core.List.{List, [], ◌∷◌, ◌++◌, map}
-use Prim.Native.Nat.{ℕ, ◌+◌, ◌-◌, ◌≤◌, ◌<◌, min}
+use mathlib.Core.List.{List, ◌++◌, map}
+use Prim.Native.Nat.{ℕ, ◌+◌, ◌-◌, ◌≤◌}
 use native.Mathlib.Omega.{arith}
-use lib.ListN.{length, get_or, take, drop, length-take, length-drop}
-use Rattle.basics.specs.Build.{build}
-use Rattle.fields.specs.Names.{within, names, number_in}
+use lib.ListN.{length, take, drop, length-take, length-drop}
+use Rattle.fields.specs.Names.{names, number_in}
 use Rattle.fields.specs.Table.{Found, read_text, answer, Fills}
 use Rattle.fields.specs.declared.Reading.{Reading}
 use Rattle.rows.specs.declared.Row.{Row}

@@ -1,9 +1,9 @@
 -- The names of a list stand in its text, and in the columns that are read from it.
-use mathlib.Core.Path.{◌≡◌, refl, sym, ap, subst, ◌∙◌}
+use mathlib.Core.Path.{◌≡◌, refl, sym, ap, ◌∙◌}
 use mathlib.Core.Bool.{Bool, true, false, cond}
 use mathlib.Core.Option.{Option}
 use mathlib.Core.List.{List, [], ◌∷◌, ◌++◌, map}
-use Prim.Native.Nat.{ℕ, zero, suc, pred, ◌+◌, ◌≤◌, ◌<◌}
+use Prim.Native.Nat.{ℕ, zero, suc, pred, ◌+◌, ◌≤◌}
 use native.Mathlib.Omega.{arith}
 use lib.Dec.{eqb}
 use lib.ListN.{length, take, drop, length-map, length-append, length-drop}
@@ -22,7 +22,7 @@ use Rattle.chroms.specs.declared.Check.{Check}
 use Rattle.chroms.specs.Entry.{sized, entry_from, entry_of, list_found, from_of, to_of, len_of}
 use Rattle.chroms.specs.Check.{check_of}
 use Rattle.chroms.proofs.Entries.{list_read}
-use Rattle.inputs.specs.Texts.{rows_most, entries_in, names_in, lens_in, Fault, found_fault, unbegun_fault, settings_in}
+use Rattle.inputs.specs.Texts.{rows_most, entries_in, names_in, Fault, unbegun_fault, settings_in}
 use Rattle.inputs.specs.Read.{fault_by, first_of, verdict_at, check_verdict, Named, NamesRead}
 use Rattle.inputs.specs.declared.Verdict.{Verdict}
 use Rattle.inputs.proofs.Faults.{first_else, text_few, text_count, read_fault, check_fault}

@@ -15,7 +15,7 @@ use Rattle.fields.specs.Names.{part}
 use Rattle.fields.proofs.Both.{and_left, and_right, and_no}
 use Rattle.fields.proofs.Naming.{part_length}
 use Rattle.rules.specs.Start.{within}
-use Rattle.inputs.specs.Texts.{Texts, Fault, fault, bytes_most, bytes_of, sizes_fault}
+use Rattle.inputs.specs.Texts.{fault, bytes_most, bytes_of, sizes_fault}
 use Rattle.inputs.specs.Parted.{parted_at, parts_all, stream_texts, texts_from, texts_of, sized_by}
 
 -- ---- each text

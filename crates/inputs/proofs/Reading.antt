@@ -1,9 +1,9 @@
 -- All texts are read: what is wrong before the run, and what the columns hold.
-use mathlib.Core.Path.{◌≡◌, refl, sym, ap, subst, ◌∙◌}
+use mathlib.Core.Path.{◌≡◌, sym, ap, subst, ◌∙◌}
 use mathlib.Core.Bool.{Bool, true, false, cond}
 use mathlib.Core.Option.{Option, none, some}
-use mathlib.Core.List.{List, [], ◌∷◌, map}
-use Prim.Native.Nat.{ℕ, suc, ◌+◌, ◌-◌, ◌*◌, ◌≤◌, ◌<◌}
+use mathlib.Core.List.{List, map}
+use Prim.Native.Nat.{ℕ, ◌+◌, ◌-◌, ◌*◌, ◌≤◌}
 use native.Mathlib.Omega.{arith}
 use native.Mathlib.Nat.{sub-zero}
 use lib.ListN.{length, get_or, take}
@@ -16,7 +16,7 @@ use Rattle.rows.specs.Row.{row_of}
 use Rattle.heads.specs.View.{Cols}
 use Rattle.inputs.specs.Texts.{Texts, Fault, fault, rows_most, names_in, rows_in, base_from, bases_of, streams_in, found_fault, list_fault, streams_fault, sizes_fault, fault_of}
 use Rattle.inputs.specs.Parted.{stream_texts, texts_of, sized_by}
-use Rattle.inputs.specs.Read.{fault_by, first_of, verdict_at, NamesRead, read_in, base_in, Slots, PartRead, Readable, StreamsRead, Columns, Rooms, Reads}
+use Rattle.inputs.specs.Read.{fault_by, first_of, verdict_at, NamesRead, read_in, base_in, Slots, PartRead, Readable, StreamsRead, Rooms, Reads}
 use Rattle.inputs.specs.declared.Verdict.{Verdict}
 use Rattle.inputs.specs.declared.Verdict.TheVariants as verdict
 use Rattle.inputs.specs.declared.Names.{Names}

@@ -1,8 +1,8 @@
 -- Each stream's text is read to its own part of the columns, one more at a time.
 use mathlib.Core.Path.{◌≡◌, refl, sym, ap, subst, ◌∙◌}
 use mathlib.Core.Option.{Option, none, some}
-use mathlib.Core.List.{List, [], ◌∷◌, map}
-use Prim.Native.Nat.{ℕ, zero, suc, ◌+◌, ◌-◌, ◌*◌, ◌≤◌, ◌<◌}
+use mathlib.Core.List.{List, [], map}
+use Prim.Native.Nat.{ℕ, suc, ◌+◌, ◌-◌, ◌*◌, ◌≤◌, ◌<◌}
 use native.Mathlib.Omega.{arith}
 use native.Mathlib.Decide.{dec_lt}
 use lib.ListN.{length, get_or, set, drop, length-set, drop_of_length-le, length-map}
@@ -11,7 +11,7 @@ use Rattle.basics.specs.Build.{build}
 use Rattle.basics.proofs.BuildLaws.{build_get, build_same}
 use Rattle.rules.specs.declared.Row as rules
 use Rattle.rules.specs.Streams.{else}
-use Rattle.fields.specs.Table.{answer, rows_of, read_text}
+use Rattle.fields.specs.Table.{rows_of}
 use Rattle.fields.specs.Names.{part, number_in}
 use Rattle.fields.specs.declared.Reading.{Reading}
 use Rattle.rows.specs.Row.{row_of}

@@ -1,5 +1,5 @@
 -- The texts of a listing: what is judged before the run, in its order, and the job that they give.
-use Rattle.std.specs.Prelude.{Bool, true, false, cond, ◌&&◌, List, [], ◌∷◌, map, ℕ, suc, leb, length}
+use Rattle.std.specs.Prelude.{cond, ◌&&◌, List, [], ◌∷◌, map, ℕ, suc, leb, length}
 use Rattle.std.proofs.Math.Option.{Option, none, some}
 use Rattle.basics.specs.Lists.{total}
 use Rattle.rules.specs.declared.Row.{Row}

@@ -16,7 +16,7 @@ use Rattle.layouts.specs.Columns.{starts_of, stops_of, Columns, mark, part_start
 use Rattle.layouts.specs.Fragments.{pieces, gaps, Fragment, fragment, fragments}
 use Rattle.layouts.specs.Given.{bases, present_all, given, all_given}
 use Rattle.fragment_rules.specs.Rules.{giving_of, rule_of}
-use Rattle.layouts.specs.Layout.{Layout, layout, shared, owned, ranges, if_any, held}
+use Rattle.layouts.specs.Layout.{Layout, layout, shared, owned, if_any, held}
 use Rattle.layouts.proofs.Bases.{map_map, length_owned}
 
 -- ---- lists side by side

@@ -5,7 +5,7 @@ use mathlib.Core.List.{List, [], ◌∷◌}
 use Prim.Native.Nat.{ℕ, zero, suc, ◌+◌, ◌-◌, ◌<◌, ◌≤◌}
 use native.Mathlib.Omega.{arith}
 use lib.Dec.{ltb, leb, eqb}
-use lib.ListN.{length, get_or}
+use lib.ListN.{get_or}
 use borrow.Author.Tests.{le-leb, lt-leb, leb-true, leb-false, ne_eqb}
 use Rattle.basics.specs.Lex.{lex}
 use Rattle.basics.specs.Build.{build}
@@ -14,7 +14,7 @@ use Rattle.basics.proofs.BuildLaws.{build_front, build_none, build_get, build_le
 use Rattle.rules.specs.Rows.{Record}
 use Rattle.rules.specs.Merge.{Pick, none, one, better, pick}
 use Rattle.rules.specs.Streams.{ahead}
-use Rattle.theory.proofs.MergeLaws.{Took, Picks, pick_picks}
+use Rattle.theory.proofs.MergeLaws.{Picks, pick_picks}
 use Rattle.least.specs.declared.Best.{Best}
 use Rattle.least.specs.Fours.{is_ended, unless_ended, record_from, left_at}
 use Rattle.least.specs.Least.{no_best, head_of, best_of, sooner, best_at, better_of, best_from, least_in}

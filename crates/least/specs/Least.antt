@@ -1,5 +1,5 @@
 -- The least head, as the code finds it: from the last stream back, the earlier stream's unless the other is before it.
-use Rattle.std.specs.Prelude.{Bool, true, false, cond, List, [], ◌∷◌, ℕ, zero, suc, ltb, leb, eqb, get_or}
+use Rattle.std.specs.Prelude.{Bool, cond, List, [], ℕ, zero, suc, ltb, leb, eqb, get_or}
 use Rattle.basics.specs.Lex.{lex}
 use Rattle.rules.specs.declared.Stream.{Stream}
 use Rattle.rules.specs.Rows.{Record}

@@ -16,7 +16,6 @@ use Rattle.admit.specs.Gates.{lengths_of}
 use Rattle.lines.specs.declared.Laid.{Laid}
 use Rattle.lines.specs.Laid.{Lays}
 use Rattle.runs.specs.declared.Run.{Run}
-use Rattle.runs.specs.View.{run_of}
 use Rattle.runs.specs.Start.{start_of}
 use Rattle.inputs.specs.Texts.{Texts, Fault, room, names_of, bases_of, job_of}
 use Rattle.inputs.specs.Parted.{texts_of}

@@ -1,6 +1,6 @@
 -- The bases of a listing, one more at a time: what stands in the buffer, and what is left gives the rest.
 use mathlib.Core.Path.{◌≡◌, refl, sym, ap, subst, ◌∙◌}
-use mathlib.Core.Bool.{Bool, true}
+use mathlib.Core.Bool.{true}
 use mathlib.Core.List.{List, [], ◌∷◌, ◌++◌, map, append-nil, append_assoc}
 use Prim.Native.Nat.{ℕ, suc, ◌+◌, ◌-◌, ◌≤◌, ◌<◌}
 use native.Mathlib.Omega.{arith}
@@ -16,7 +16,6 @@ use Rattle.rules.specs.Call.{Reply, found, refused, ended, answer_of, give}
 use Rattle.rules.specs.Call as rules
 use Rattle.rules.specs.Job.{lending, replies}
 use Rattle.heads.specs.View.{Cols}
-use Rattle.queue.specs.Ring.{Cells}
 use Rattle.admit.specs.Gates.{lengths_of}
 use Rattle.lines.specs.declared.Laid.{Laid}
 use Rattle.lines.specs.declared.Laid.TheVariants.{Whole, Part}
@@ -26,7 +25,7 @@ use Rattle.lines.proofs.LaidLaws.{lays_none, lays_append, lays_part}
 use Rattle.runs.specs.declared.Run.{Run}
 use Rattle.runs.specs.declared.Given.{Given}
 use Rattle.runs.specs.View.{run_of}
-use Rattle.pulls.specs.Pulls.{Lent, lent}
+use Rattle.pulls.specs.Pulls.{Lent}
 use Rattle.step.specs.Give.{Gives}
 use Rattle.runs.specs.Comes.{right_of, given_of}
 use Rattle.replies.specs.declared.Listed.{Listed}
@@ -41,7 +40,6 @@ use Rattle.inputs.specs.Read.{base_in}
 use Rattle.walk.specs.Run.{Own, Comes, Bases}
 use Rattle.listing.specs.Listing.{record_line, reply_lines, run_lines}
 use Rattle.listing.specs.Run.{lines_from, step_of}
-use Rattle.listing.specs.declared.Step.{Step}
 use Rattle.listing.specs.declared.Step.TheVariants.{On, Done}
 
 -- ---- the lines of one base

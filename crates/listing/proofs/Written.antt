@@ -1,9 +1,9 @@
 -- What a buffer holds of lines from its start on, as the call says it; a fault before the run.
 use mathlib.Core.Path.{◌≡◌, refl, sym, ap, subst, ◌∙◌}
 use mathlib.Core.Bool.{Bool, true, false, cond}
-use mathlib.Core.Option.{Option, none, some}
+use mathlib.Core.Option.{Option, some}
 use mathlib.Core.List.{List, [], ◌∷◌, ◌++◌}
-use Prim.Native.Nat.{ℕ, ◌+◌, ◌-◌, ◌≤◌, ◌<◌}
+use Prim.Native.Nat.{ℕ, ◌-◌, ◌≤◌}
 use native.Mathlib.Omega.{arith}
 use native.Mathlib.Nat.{sub-zero, zero-add}
 use lib.Dec.{leb}
@@ -14,13 +14,12 @@ use Rattle.lines.specs.declared.Laid.TheVariants.{Whole, Part}
 use Rattle.lines.specs.declared.Put.{Put}
 use Rattle.lines.specs.Put.{Puts, laid}
 use Rattle.lines.specs.Lines.{line_f}
-use Rattle.lines.specs.Laid.{joined, fitting, fitted, laid_of, only_of, Lays}
+use Rattle.lines.specs.Laid.{joined, fitting, laid_of, only_of, Lays}
 use Rattle.lines.proofs.LaidLaws.{lays_only}
 use Rattle.heads.specs.View.{Cols}
 use Rattle.inputs.specs.Texts.{Texts, Fault, fault, fault_of, names_of, bases_of, job_of}
 use Rattle.inputs.specs.Read.{fault_by, Reads}
 use Rattle.inputs.specs.declared.Read.{Read}
-use Rattle.inputs.specs.declared.Verdict.{Verdict}
 use Rattle.inputs.specs.declared.Verdict.TheVariants as verdict
 use Rattle.rules.specs.Job.{answers}
 use Rattle.listing.specs.Listing.{run_lines, unless_fault, listing}

@@ -15,7 +15,7 @@ use Rattle.chroms.specs.Entry.{entry_of}
 use Rattle.rows.specs.Row.{row_of}
 use Rattle.lines.specs.Lines.{spelled, decimal}
 use Rattle.lines.specs.Laid.{joined}
-use Rattle.inputs.specs.Texts.{Texts, fault_of}
+use Rattle.inputs.specs.Texts.{fault_of}
 use Rattle.listing.specs.Listing.{listing}
 
 -- the texts, and the whole listing

@@ -2,7 +2,7 @@
 use mathlib.Core.Path.{◌≡◌, refl, sym, ap, subst, ◌∙◌}
 use mathlib.Core.Bool.{Bool, true, false}
 use mathlib.Core.List.{List, ◌++◌}
-use Prim.Native.Nat.{ℕ, ◌+◌, ◌≤◌, ◌<◌}
+use Prim.Native.Nat.{ℕ, ◌≤◌, ◌<◌}
 use native.Mathlib.Omega.{arith}
 use lib.Dec.{eqb, leb, ltb}
 use lib.ListN.{length, set, drop, take, take-append-drop, length-drop}
@@ -18,7 +18,7 @@ use Rattle.heads.specs.Move.{Shaped}
 use Rattle.queue.specs.Ring.{Cells}
 use Rattle.queue.specs.Deeds.{answer_row}
 use Rattle.admit.specs.Gates.{lengths_of}
-use Rattle.pulls.specs.Pulls.{Found, Lent, lent}
+use Rattle.pulls.specs.Pulls.{Lent, lent}
 use Rattle.runs.specs.declared.Run.{Run}
 use Rattle.runs.specs.declared.Given.{Given}
 use Rattle.runs.specs.View.{heads_of, run_of}

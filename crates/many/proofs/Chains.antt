@@ -11,16 +11,13 @@ use Rattle.basics.proofs.BuildLaws.{build_snoc}
 use Rattle.rules.specs.declared.Base.{Base}
 use Rattle.rules.specs.declared.Offer.{Offer}
 use Rattle.rules.specs.declared.Offer.TheVariants.{Nothing}
-use Rattle.rules.specs.declared.Refusal.{Refusal}
 use Rattle.rules.specs.declared.Refusal.TheVariants as refusal
 use Rattle.rules.specs.declared.Answer.{Answer}
 use Rattle.rules.specs.declared.Answer.TheVariants as answer
 use Rattle.heads.specs.View.{Cols}
-use Rattle.pulls.specs.Pulls.{Lent, lent}
+use Rattle.pulls.specs.Pulls.{Lent}
 use Rattle.runs.specs.declared.Run.{Run}
-use Rattle.runs.specs.declared.Given.{Given}
-use Rattle.step.specs.Give.{Gives}
-use Rattle.demands.specs.Calls.{Unheeded, Came, came, Calls, none, call, unheeded, count_in, all_rows, last_offer}
+use Rattle.demands.specs.Calls.{Came, came, Calls, none, unheeded, count_in, all_rows, last_offer}
 use Rattle.demands.proofs.Chained.{calls_then, calls_one, all_rows_one, last_offer_lem}
 use Rattle.many.specs.declared.Passed.{Passed}
 use Rattle.many.specs.Many as many

@@ -5,7 +5,7 @@ use mathlib.Core.List.{List, map}
 use Prim.Native.Nat.{ℕ, ◌+◌, ◌-◌, ◌≤◌, ◌<◌}
 use native.Mathlib.Omega.{arith}
 use lib.Dec.{leb, ltb}
-use lib.ListN.{length, set, drop, take, length-append, length-map, length-drop, length-set}
+use lib.ListN.{length, set, drop, length-append, length-map, length-drop, length-set}
 use borrow.Author.Tests.{leb-true, leb-false, ltb-true, ltb-false}
 use borrow.Rule.Slice.PartMut.{mid_of, put_mid, take_put}
 use Rattle.basics.proofs.BoolLaws.{and_left, and_also, clash}
@@ -17,7 +17,6 @@ use Rattle.rules.specs.declared.Refusal.{Refusal}
 use Rattle.rules.specs.declared.Stage.TheVariants.{After}
 use Rattle.rules.specs.declared.Answer.{Answer}
 use Rattle.rules.specs.declared.Answer.TheVariants as answer
-use Rattle.rules.specs.Rows.{Record}
 use Rattle.rules.specs.Call.{Reply, found, refused, ended, answer_of, rows_of}
 use Rattle.heads.specs.View.{Cols, Heads}
 use Rattle.heads.specs.Move.{Shaped}

@@ -1,10 +1,9 @@
 -- What the parts of a call for many bases promise one another.
 use Rattle.std.specs.Prelude.{◌≡◌, true, List, ℕ, ◌<◌, length}
 use Rattle.heads.specs.View.{Cols}
-use Rattle.heads.specs.Move.{Shaped}
 use Rattle.pulls.specs.Pulls.{Lent}
 use Rattle.runs.specs.declared.Run.{Run}
-use Rattle.runs.specs.View.{heads_of, stage_of}
+use Rattle.runs.specs.View.{stage_of}
 use Rattle.runs.specs.Comes.{right_of}
 use Rattle.step.specs.Settle.{Going}
 use Rattle.many.specs.Many.{Even}

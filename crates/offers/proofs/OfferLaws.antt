@@ -1,13 +1,13 @@
 -- The offer from the first that waits and the least head is the one of the rules.
-use mathlib.Core.Path.{◌≡◌, refl, sym, ap}
+use mathlib.Core.Path.{◌≡◌, refl, ap}
 use mathlib.Core.Bool.{Bool, true, false, cond}
 use mathlib.Core.Option.{Option}
-use mathlib.Core.List.{List, [], ◌∷◌, ◌++◌}
-use Prim.Native.Nat.{ℕ, ◌<◌}
+use mathlib.Core.List.{List, [], ◌∷◌}
+use Prim.Native.Nat.{◌<◌}
 use native.Mathlib.Omega.{arith}
 use lib.Dec.{ltb, eqb}
 use borrow.Author.Tests.{eqb-true, ne_eqb}
-use Rattle.basics.specs.Lists.{keep, first_one, first, All, nil, cons}
+use Rattle.basics.specs.Lists.{keep, first_one, first, All, cons}
 use Rattle.basics.proofs.BoolLaws.{and_left}
 use Rattle.rules.specs.declared.Base.{Base}
 use Rattle.rules.specs.declared.Offer.TheVariants as offers

@@ -17,7 +17,6 @@ use Rattle.layouts.specs.declared.Answer.{Answer}
 use Rattle.layouts.specs.declared.Answer.TheVariants.{Written, Refused}
 use Rattle.spans.specs.Spans.{spans}
 use Rattle.fragment_rules.specs.Rules.{rule_of}
-use Rattle.layouts.specs.Fragments.{fragments}
 use Rattle.layouts.specs.Columns.{Columns, holding}
 use Rattle.layouts.specs.Layout.{layout}
 use Rattle.fragment_columns.specs.Ready.{Ready}

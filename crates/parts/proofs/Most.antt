@@ -20,7 +20,7 @@ use Rattle.spans.specs.Spans.{stretch, only_if, span, clipped, before, after}
 use Rattle.layouts.specs.Fragments.{pieces, all_pieces, walk, gaps, fragment, fragments, whole}
 use Rattle.spans.specs.Turn.{gap_end, next_place}
 use Rattle.fragment_rules.specs.Rules.{rule_of, giving_of}
-use Rattle.layouts.specs.Given.{bases, all_given}
+use Rattle.layouts.specs.Given.{all_given}
 use Rattle.layouts.specs.Columns.{Columns}
 use Rattle.layouts.specs.Layout.{layout, if_any}
 use Rattle.layouts.specs.Judged.{judged, unless, all_fitting}

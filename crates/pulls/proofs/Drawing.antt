@@ -1,8 +1,8 @@
 -- The loop of a pull: what is left and what waits give the same pull as at its start, and each way out settles the call.
-use mathlib.Core.Path.{◌≡◌, refl, sym, ap, subst, ◌∙◌}
+use mathlib.Core.Path.{◌≡◌, refl, sym, ap, ◌∙◌}
 use mathlib.Core.Bool.{Bool, true, false, cond}
 use mathlib.Core.List.{List, [], ◌∷◌, ◌++◌, append-nil}
-use Prim.Native.Nat.{ℕ, zero, suc, ◌≤◌, ◌<◌}
+use Prim.Native.Nat.{ℕ, zero, suc}
 use native.Mathlib.Omega.{arith}
 use lib.Dec.{leb, ltb}
 use lib.ListN.{length}
@@ -13,30 +13,25 @@ use Rattle.rules.specs.declared.Base.{Base}
 use Rattle.rules.specs.declared.Chrom.{Chrom}
 use Rattle.rules.specs.declared.End.{End}
 use Rattle.rules.specs.declared.End.TheVariants.{NoRoom}
-use Rattle.rules.specs.declared.Stage.{Stage}
-use Rattle.rules.specs.declared.Stage.TheVariants.{Fresh, After, Over}
 use Rattle.rules.specs.declared.Answer.{Answer}
 use Rattle.rules.specs.declared.Answer.TheVariants as answer
 use Rattle.rules.specs.Rows.{Record}
-use Rattle.rules.specs.Merge.{pick}
 use Rattle.rules.specs.Streams.{ahead, next}
 use Rattle.rules.specs.Overlap.{taken, live, overlaps}
 use Rattle.rules.specs.Pull.{Pull, paused, ends, pull}
 use Rattle.rules.specs.Offer.{offer}
-use Rattle.rules.specs.Call.{Reply, found, refused, ended, coming, after_pull, end}
-use Rattle.rules.specs.Call as rules
+use Rattle.rules.specs.Call.{coming}
 use Rattle.least.specs.declared.Best.{Best}
 use Rattle.heads.specs.declared.Taken.{Taken}
 use Rattle.heads.specs.declared.Move.{Move}
 use Rattle.heads.specs.declared.Move.TheVariants as move
 use Rattle.heads.specs.View.{Cols, Heads, rests_of}
-use Rattle.least.specs.Least.{best_of}
 use Rattle.heads.specs.Move.{turn_of, moved, taken_record}
 use Rattle.heads.proofs.RestLaws.{on_move, queued, pull_move}
 use Rattle.heads.proofs.TurnLaws.{Turning, Takes, turn_here, stays_best, least_below}
 use Rattle.queue.specs.declared.Ring.{Ring}
 use Rattle.queue.specs.Ring.{Cells, Fair, record_of, waiting}
-use Rattle.queue.specs.Deeds.{Scannable, front_of}
+use Rattle.queue.specs.Deeds.{front_of}
 use Rattle.queue.proofs.Waiting.{length_waiting}
 use Rattle.offers.specs.Offers.{offer_by, Reports}
 use Rattle.offers.proofs.OfferLaws.{offer_by_lem}

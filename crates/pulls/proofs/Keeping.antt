@@ -1,19 +1,18 @@
 -- A record that was taken: dropped where it is not live, else queued.
 use mathlib.Core.Path.{◌≡◌, refl, sym, ap, ◌∙◌}
 use mathlib.Core.Bool.{Bool, true, false}
-use mathlib.Core.List.{List, [], ◌∷◌, ◌++◌, append-nil}
+use mathlib.Core.List.{[], ◌++◌, append-nil}
 use Prim.Native.Nat.{ℕ}
 use native.Mathlib.Omega.{arith}
 use Rattle.basics.specs.Lists.{keep}
 use Rattle.basics.proofs.BoolLaws.{clash}
-use Rattle.rules.specs.Rows.{Record}
 use Rattle.heads.specs.declared.Taken.{Taken}
 use Rattle.queue.specs.declared.Ring.{Ring}
 use Rattle.queue.specs.declared.Pushed.{Pushed}
-use Rattle.queue.specs.declared.Pushed.TheVariants.{Done, Full}
+use Rattle.queue.specs.declared.Pushed.TheVariants.{Done}
 use Rattle.queue.specs.Ring.{Cells, Fair, record_of, waiting}
 use Rattle.queue.specs.Deeds.{Pushes}
-use Rattle.pulls.specs.Pulls.{slot_of, KeptAs, FullAs, Keeps}
+use Rattle.pulls.specs.Pulls.{slot_of, KeptAs, Keeps}
 
 pub keeps_dropped : (q : Ring) (c : Cells) (t : Taken) → Fair q c → t.live ≡ false → Keeps q c t (Done q) c
 keeps_dropped q c t f e = record {

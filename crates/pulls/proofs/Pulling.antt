@@ -1,18 +1,14 @@
 -- The loop of `draw`, from what `decide`, `keep` and `report` say.
 use mathlib.Core.Path.{◌≡◌, refl, sym, ap, subst, ◌∙◌}
-use mathlib.Core.Bool.{Bool, true, false, cond}
-use mathlib.Core.List.{List, [], ◌∷◌, ◌++◌}
-use Prim.Native.Nat.{ℕ, zero, suc, ◌≤◌, ◌<◌}
+use mathlib.Core.List.{List}
+use Prim.Native.Nat.{ℕ, ◌<◌}
 use native.Mathlib.Omega.{arith}
-use lib.ListN.{length}
 use Rattle.basics.specs.Lists.{total}
 use Rattle.rules.specs.declared.Base.{Base}
 use Rattle.rules.specs.declared.End.{End}
 use Rattle.rules.specs.declared.End.TheVariants.{NoRoom}
 use Rattle.rules.specs.declared.Answer.{Answer}
 use Rattle.rules.specs.declared.Answer.TheVariants as answer
-use Rattle.rules.specs.Rows.{Record}
-use Rattle.rules.specs.Pull.{Pull, ends}
 use Rattle.least.specs.declared.Best.{Best}
 use Rattle.heads.specs.declared.Taken.{Taken}
 use Rattle.heads.specs.declared.Then.{Then}
@@ -23,13 +19,11 @@ use Rattle.heads.specs.Move.{turn_of, turn_at, Placed, moved}
 use Rattle.heads.proofs.RestLaws.{on_move, queued}
 use Rattle.heads.proofs.TurnLaws.{Takes, takes_so}
 use Rattle.queue.specs.declared.Ring.{Ring}
-use Rattle.queue.specs.declared.Pushed.{Pushed}
-use Rattle.queue.specs.declared.Pushed.TheVariants.{Done, Full}
-use Rattle.queue.specs.Ring.{Cells, Fair, waiting}
+use Rattle.queue.specs.Ring.{Cells, waiting}
 use Rattle.queue.specs.Deeds.{Scannable}
 use Rattle.offers.specs.Offers.{Reports}
-use Rattle.pulls.specs.Pulls.{Kept, Lent, lent, Drawable, KeptAs, FullAs, Keeps, DrawsAs}
-use Rattle.pulls.proofs.Drawing.{Drawing, starts, here, on_move_lem, queued_full, steps, ends_so, stays_so}
+use Rattle.pulls.specs.Pulls.{Lent, lent, Drawable, KeptAs, FullAs, DrawsAs}
+use Rattle.pulls.proofs.Drawing.{Drawing, starts, on_move_lem, queued_full, steps, ends_so, stays_so}
 
 -- h, q and l: the heads, the ring and what was lent at the start; n: the number of chromosomes
 module _ (s : Cols) (n : ℕ) (h : Heads) (b : Base) (q : Ring) (l : Lent) where

@@ -1,5 +1,5 @@
 -- What an accepted base comes to: the heads after its pull, what waits then, the answer, and all that was lent.
-use Rattle.std.specs.Prelude.{◌≡◌, Bool, true, List, [], ◌++◌, ℕ, zero, suc, ◌≤◌, ◌<◌, length}
+use Rattle.std.specs.Prelude.{◌≡◌, true, List, [], ◌++◌, ℕ, zero, suc, ◌≤◌, ◌<◌, length}
 use Rattle.basics.specs.Lists.{total, keep, All}
 use Rattle.rules.specs.declared.Base.{Base}
 use Rattle.rules.specs.declared.End.{End}

@@ -8,12 +8,12 @@ use native.Mathlib.Nat.{zero-add}
 use lib.ListN.{get_or, set}
 use borrow.Author.Count.{below_more}
 use Rattle.basics.specs.Build.{build}
-use Rattle.basics.specs.Lists.{filter, front, back, All}
+use Rattle.basics.specs.Lists.{filter, back, All}
 use Rattle.basics.proofs.ListLaws.{filter_all, front_all, front_whole}
 use Rattle.basics.proofs.EdgeLaws.{build_append, all_build, filter_keeps, filter_drops, filter_back, front_stops}
 use Rattle.rules.specs.declared.Base.{Base}
 use Rattle.rules.specs.declared.Chrom.{Chrom}
-use Rattle.rules.specs.Overlap.{lasts, live}
+use Rattle.rules.specs.Overlap.{lasts}
 use Rattle.queue.specs.declared.Ring.{Ring}
 use Rattle.queue.specs.Ring.{Cells, Sound, Fair, slot_at, place, nth, oldest, waiting}
 use Rattle.queue.specs.Deeds.{Clears, Skips, Leads, Packs, Packable, ends}

@@ -19,9 +19,9 @@ use Rattle.replies.specs.Lines.{row_line}
 use Rattle.replies.specs.Source.{Source, line_at, row_lines}
 
 -- a record's line, by the values that were read
-pub record-put : {old new : List ℕ} {at first begins ends : ℕ} {r : Put} (start stop from : List ℕ) (stream row : ℕ) → first ≡ get_or from stream 0 → begins ≡ get_or start (first + row) 0 → ends ≡ get_or stop (first + row) 0
+pub record_put : {old new : List ℕ} {at first begins ends : ℕ} {r : Put} (start stop from : List ℕ) (stream row : ℕ) → first ≡ get_or from stream 0 → begins ≡ get_or start (first + row) 0 → ends ≡ get_or stop (first + row) 0
     → Puts old at (line_r stream row begins ends) r new → Puts old at (row_line start stop from stream row) r new
-record-put start stop from stream row f b e p = rw (← f, ← b, ← e) p
+record_put start stop from stream row f b e p = rw (← f, ← b, ← e) p
 
 -- i lines stand, and the next goes to a place
 pub record Writing (t : Source) (n : ℕ) (old : List ℕ) (at : ℕ) (out : List ℕ) (place i : ℕ) : Type 0 where

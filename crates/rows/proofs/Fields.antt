@@ -1,19 +1,17 @@
 -- What the bytes of a row's line say of it, field by field. Assumes nothing.
-use Prim.Native.Nat.{ℕ, suc, ◌+◌, ◌≤◌, ◌<◌}
+use Prim.Native.Nat.{ℕ, ◌+◌, ◌<◌}
 use mathlib.Core.Path.{◌≡◌, refl, sym, ap, ◌∙◌}
 use mathlib.Core.List.{List, [], ◌∷◌}
 use native.Mathlib.Omega.{arith}
 use lib.ListN.{length, get_or, drop}
-use Rattle.fields.specs.Number.{Read, good, bad, number_of}
+use Rattle.fields.specs.Number.{good, bad, number_of}
 use Rattle.fields.specs.Scan.{line_at, field_at, next_line, number_at, FieldTo}
 use Rattle.fields.specs.declared.Number.TheVariants.{Value, Bad}
 use Rattle.fields.proofs.Lines.{further, field_to, fields_are, fields_none, fields_out, fields_tab, next_same, next_tab}
 use Rattle.fields.proofs.Numbers.{number_bad, number_good, number_to}
-use Rattle.rows.specs.Row.{row_with, row_named, row_from, row_of}
-use Rattle.rows.specs.Read.{Names, Named, ReadsRow, gives, leads, ends, numbers}
-use Rattle.rows.specs.declared.Name.{Name}
+use Rattle.rows.specs.Row.{row_from, row_of}
+use Rattle.rows.specs.Read.{Named, ReadsRow}
 use Rattle.rows.specs.declared.Line.{Line}
-use Rattle.rows.specs.declared.Row.{Row}
 use Rattle.rows.specs.declared.Line.TheVariants.{Is, Not}
 
 module _ (number : List ℕ → ℕ) where

@@ -9,7 +9,7 @@ use lib.Dec.{eqb}
 use borrow.Author.Tests.{eq-eqb, ne_eqb, eqb-true}
 use Rattle.fields.specs.Number.{good, bad}
 use Rattle.fields.specs.Names.{within, names, number_in}
-use Rattle.fields.specs.Table.{Found, refused, ends, read_text}
+use Rattle.fields.specs.Table.{refused, ends, read_text}
 use Rattle.fields.specs.Scan.{in_field, line_at, field_at, next_line, FieldTo}
 use Rattle.fields.proofs.Both.{and_left, and_right, and_no}
 use Rattle.fields.proofs.Scan.{front_within}

@@ -1,9 +1,9 @@
 -- A name held against the one seen last. Assumes nothing.
-use Prim.Native.Nat.{ℕ, suc, ◌+◌, ◌-◌, ◌≤◌, ◌<◌}
+use Prim.Native.Nat.{ℕ, ◌+◌, ◌-◌, ◌≤◌, ◌<◌}
 use mathlib.Core.Path.{◌≡◌, refl, sym, ap, ◌∙◌}
 use mathlib.Core.List.{List, [], ◌∷◌, ◌++◌, append-nil}
 use native.Mathlib.Omega.{arith}
-use native.Mathlib.Nat.{zero-add, add-zero}
+use native.Mathlib.Nat.{zero-add}
 use native.Mathlib.Numerals.{add-one}
 use lib.ListN.{length, get_or, take, drop, length-drop, length-append, take-append-drop}
 use lib.Seq.{take-suc, take-take, get_or-drop, drop-drop, length-take-le}
@@ -12,7 +12,6 @@ use Rattle.fields.specs.Scan.{front, in_field, field_at, FieldTo}
 use Rattle.fields.proofs.Scan.{front_append, front_prefix, front_take, front_front}
 use Rattle.rows.specs.Read.{Knows, Names}
 use Rattle.rows.specs.declared.Seen.{Seen}
-use Rattle.rows.specs.declared.Name.{Name}
 
 -- one byte more agrees
 pub agree_next : (text : List ℕ) (a b i : ℕ) → take i (drop a text) ≡ take i (drop b text) → get_or text (a + i) 0 ≡ get_or text (b + i) 0 → a + i < length text → b + i < length text →

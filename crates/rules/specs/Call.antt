@@ -1,5 +1,5 @@
 -- One call: a base is given to a run.
-use Rattle.std.specs.Prelude.{Bool, true, false, cond, List, [], ◌∷◌, ◌++◌, map, ℕ, ltb, length, drop}
+use Rattle.std.specs.Prelude.{Bool, cond, List, [], ◌∷◌, ◌++◌, map, ℕ, ltb, length, drop}
 use Rattle.std.proofs.Math.Option.{Option, none, some}
 use Rattle.basics.specs.Lists.{filter}
 use Rattle.rules.specs.declared.Row.{Row}

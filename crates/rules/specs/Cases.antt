@@ -1,7 +1,7 @@
 -- "Boundary cases: Marked * are proved together of the definitions, as a single table with one fact". The easy slips that the document names
 -- stand in it too, what 7, 8 and 9 come to behind one another, and bases that are left out, lawfully and not.
 use Rattle.std.specs.Prelude.{◌≡◌, refl, Bool, true, false, not, ◌&&◌, List, [], ◌∷◌, map, ℕ, eqb}
-use Rattle.std.proofs.Math.Option.{Option, none, some}
+use Rattle.std.proofs.Math.Option.{none, some}
 use Rattle.rules.specs.declared.Row.{Row}
 use Rattle.rules.specs.declared.Base.{Base}
 use Rattle.rules.specs.declared.Offer.{Offer}

@@ -1,6 +1,6 @@
 -- The demands, as what any way to answer jobs has to satisfy.
 use Rattle.std.specs.Prelude.{◌≡◌, Bool, true, false, cond, ◌⊎◌, List, [], ◌∷◌, ◌++◌, map, ℕ, ◌≤◌, eqb, ltb, length, get_or}
-use Rattle.std.proofs.Math.Option.{Option, none, some}
+use Rattle.std.proofs.Math.Option.{Option, none}
 use Rattle.basics.specs.Lists.{is_some, filter, first_one, All, Pairs}
 use Rattle.rules.specs.declared.Base.{Base}
 use Rattle.rules.specs.declared.Offer.TheVariants.{Nothing}

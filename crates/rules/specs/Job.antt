@@ -1,5 +1,5 @@
 -- A whole job: the replies to a list of bases, by one call after the other.
-use Rattle.std.specs.Prelude.{Bool, true, List, [], ◌∷◌, ℕ, length}
+use Rattle.std.specs.Prelude.{true, List, [], ◌∷◌, ℕ, length}
 use Rattle.std.proofs.Math.Option.{Option}
 use Rattle.rules.specs.declared.Row.{Row}
 use Rattle.rules.specs.declared.Base.{Base}

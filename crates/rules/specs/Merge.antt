@@ -1,5 +1,5 @@
 -- The merge of several lists: the least head is taken again and again, the earliest of equal ones.
-use Rattle.std.specs.Prelude.{Bool, true, false, cond, List, [], ◌∷◌, ℕ, zero, suc}
+use Rattle.std.specs.Prelude.{Bool, cond, List, [], ◌∷◌, ℕ, zero, suc}
 use Rattle.basics.specs.Lists.{total}
 
 -- the least head, what follows it in its list, and the lists with it taken off; or there is none

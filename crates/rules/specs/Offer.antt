@@ -1,5 +1,5 @@
 -- The offered place.
-use Rattle.std.specs.Prelude.{Bool, true, false, cond, ◌&&◌, List, ℕ, ◌-◌, ltb, leb}
+use Rattle.std.specs.Prelude.{Bool, false, cond, ◌&&◌, List, ◌-◌, ltb, leb}
 use Rattle.std.proofs.Math.Option.{Option, none, some}
 use Rattle.basics.specs.Lists.{first}
 use Rattle.basics.specs.Lex.{lex}

@@ -6,15 +6,15 @@ use Rattle.rules.specs.Rows.{Record}
 
 -- "start < b.stop": how far a base reaches
 abbrev pub reaches : ℕ → ℕ → Bool
-reaches baseStop start = ltb start baseStop
+reaches base_stop start = ltb start base_stop
 
 -- "ends after b.start": how long a record lasts
 abbrev pub lasts : ℕ → ℕ → Bool
-lasts baseStart stop = ltb baseStart stop
+lasts base_start stop = ltb base_start stop
 
 -- "start < base stop and stop > base start": two spans, half-open
 abbrev pub meets : ℕ → ℕ → ℕ → ℕ → Bool
-meets baseStart baseStop start stop = reaches baseStop start && lasts baseStart stop
+meets base_start base_stop start stop = reaches base_stop start && lasts base_start stop
 
 -- "exactly the records of its chromosome with start < base stop and stop > base start"
 abbrev pub overlaps : Base → Record → Bool

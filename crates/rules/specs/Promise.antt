@@ -1,5 +1,5 @@
 -- What a job is promised, with no run: each base by the merged list, the bases accepted ahead of it, and the room.
-use Rattle.std.specs.Prelude.{Bool, true, false, cond, not, ◌&&◌, List, [], ◌∷◌, map, ℕ, max, eqb, ltb, length}
+use Rattle.std.specs.Prelude.{Bool, cond, not, ◌&&◌, List, [], ◌∷◌, map, ℕ, max, eqb, ltb, length}
 use Rattle.std.proofs.Math.Option.{Option, none, some}
 use Rattle.basics.specs.Lists.{is_some, filter, front, back, first_one}
 use Rattle.rules.specs.declared.Base.{Base}

@@ -9,7 +9,7 @@ use lib.ListN.{length, get_or}
 use native.Mathlib.Omega.{arith}
 use borrow.Author.Tests.{le-leb, eqb-true}
 use Rattle.basics.specs.Lists.{Says, any}
-use Rattle.basics.proofs.BoolLaws.{and_also, and_drop, off}
+use Rattle.basics.proofs.BoolLaws.{off}
 use Rattle.basics.proofs.SaysLaws.{says_same, says_map, says_eq, says_le, says_and, says_upto}
 use Rattle.rules.specs.declared.Unbegun.TheVariants as unbegun
 use Rattle.rules.specs.Start.{sized, misnamed, refuses_start}

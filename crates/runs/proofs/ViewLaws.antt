@@ -1,8 +1,7 @@
 -- What an ended run stands for.
-use mathlib.Core.Path.{◌≡◌, refl, sym, ap, ◌∙◌}
-use mathlib.Core.Bool.{Bool, true, false}
-use mathlib.Core.List.{List, [], ◌∷◌, map}
-use Prim.Native.Nat.{ℕ, zero, suc, ◌+◌, ◌<◌, ◌≤◌}
+use mathlib.Core.Path.{◌≡◌, refl, ap, ◌∙◌}
+use mathlib.Core.List.{List, [], map}
+use Prim.Native.Nat.{ℕ, zero, suc, ◌<◌, ◌≤◌}
 use native.Mathlib.Omega.{arith}
 use lib.ListN.{get_or}
 use Rattle.basics.specs.Build.{build}
@@ -12,9 +11,7 @@ use Rattle.rules.specs.declared.Stage.{Stage}
 use Rattle.rules.specs.declared.Stage.TheVariants.{Fresh, After, Over}
 use Rattle.rules.specs.Rows.{Record}
 use Rattle.rules.specs.Call.{over}
-use Rattle.rules.specs.Call as rules
 use Rattle.heads.specs.View.{Cols, Heads, behind_at, rest_at, rests_of, fresh_of}
-use Rattle.least.specs.Fours.{unless_ended}
 use Rattle.queue.specs.Ring.{Cells, waiting}
 use Rattle.queue.proofs.Calls.{fresh_none}
 use Rattle.runs.specs.declared.Run.{Run}

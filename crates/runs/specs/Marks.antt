@@ -4,7 +4,6 @@ use Rattle.rules.specs.declared.End.{End}
 use Rattle.rules.specs.declared.End.TheVariants.{Faulty, Unsorted, NoRoom, NoRows}
 use Rattle.rules.specs.declared.Stage.{Stage}
 use Rattle.rules.specs.declared.Stage.TheVariants.{Fresh, After, Over}
-use Rattle.rules.specs.Numbers.{end_number}
 use Rattle.runs.specs.declared.mark.Mark.{Mark}
 
 -- ---- from numbers

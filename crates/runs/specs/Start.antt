@@ -1,5 +1,5 @@
 -- Beginning a run: what is refused, the run that begins, and what it stands for.
-use Rattle.std.specs.Prelude.{◌≡◌, Bool, true, cond, ◌&&◌, List, ℕ, ◌-◌, ◌≤◌, eqb, leb, length, get_or}
+use Rattle.std.specs.Prelude.{◌≡◌, Bool, cond, ◌&&◌, List, ℕ, ◌-◌, ◌≤◌, eqb, leb, length, get_or}
 use Rattle.std.proofs.Math.Option.{Option, none, some}
 use Rattle.basics.specs.Build.{build, upto}
 use Rattle.basics.specs.Lists.{all}

@@ -1,13 +1,13 @@
 -- The parts of a call that gives a base, and the whole.
 use mathlib.Core.Path.{◌≡◌, refl, sym, ap, subst, ◌∙◌}
 use mathlib.Core.Bool.{Bool, true, false, cond}
-use mathlib.Core.Option.{Option, none, some}
-use mathlib.Core.List.{List, [], ◌∷◌, map}
+use mathlib.Core.Option.{none, some}
+use mathlib.Core.List.{List}
 use Prim.Native.Nat.{ℕ, ◌≤◌}
 use native.Mathlib.Omega.{arith}
 use lib.Dec.{ltb}
 use lib.ListN.{length, length-map}
-use Rattle.basics.specs.Lists.{filter, All}
+use Rattle.basics.specs.Lists.{filter}
 use Rattle.rules.specs.declared.Base.{Base}
 use Rattle.rules.specs.declared.End.{End}
 use Rattle.rules.specs.declared.End.TheVariants.{NoRoom, NoRows}
@@ -33,7 +33,7 @@ use Rattle.heads.specs.Load.{load_to, LoadsAs}
 use Rattle.heads.proofs.CheckLaws.{check_fine, check_wrong}
 use Rattle.heads.proofs.LoadLaws.{Upto, loaded_upto, load_rests}
 use Rattle.queue.specs.declared.Ring.{Ring}
-use Rattle.queue.specs.Ring.{Cells, Fair, waiting}
+use Rattle.queue.specs.Ring.{Fair, waiting}
 use Rattle.admit.specs.declared.Gate.{Gate}
 use Rattle.admit.specs.declared.Gate.TheVariants.{Open, Shut}
 use Rattle.admit.specs.Gates.{known, lengths_of, last_of, gate_of}

@@ -7,7 +7,6 @@ use native.Mathlib.Omega.{arith}
 use Rattle.rules.specs.declared.Base.{Base}
 use Rattle.rules.specs.declared.End.{End}
 use Rattle.rules.specs.declared.Refusal.{Refusal}
-use Rattle.rules.specs.declared.Offer.{Offer}
 use Rattle.rules.specs.declared.Stage.{Stage}
 use Rattle.rules.specs.declared.Stage.TheVariants.{Fresh, After, Over}
 use Rattle.rules.specs.declared.Answer.TheVariants as answer
@@ -22,13 +21,12 @@ use Rattle.admit.specs.Gates.{lengths_of, last_of, judged_of, gate_of}
 use Rattle.pulls.specs.declared.Answered.{Answered}
 use Rattle.pulls.specs.Pulls.{Lent, Settleable, SettlesAs}
 use Rattle.runs.specs.declared.Run.{Run}
-use Rattle.runs.specs.declared.Given.{Given}
 use Rattle.runs.specs.Marks.{stage_in, mark_of}
-use Rattle.runs.specs.View.{heads_of, ring_of, stage_of, run_in, over_of}
+use Rattle.runs.specs.View.{run_in, over_of}
 use Rattle.step.specs.declared.State.{State}
 use Rattle.step.specs.Settle.{Going}
 use Rattle.step.specs.Give.{Gives}
-use Rattle.step.specs.Step.{Answerable, KeepsHeads, OpensAs, run_at, Ready, Steps}
+use Rattle.step.specs.Step.{Answerable, OpensAs, run_at, Ready, Steps}
 use Rattle.step.proofs.Giving.{Gated, refused_so, fits, answerable, settleable, ends_as, found_as, not_refused, further_so, first_wrong, first_shaped, first_answerable, over_same, first_so}
 
 -- how the run stands, by another name

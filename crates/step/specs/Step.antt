@@ -6,7 +6,7 @@ use Rattle.rules.specs.declared.Refusal.{Refusal}
 use Rattle.rules.specs.declared.Offer.{Offer}
 use Rattle.rules.specs.declared.Answer.TheVariants as answer
 use Rattle.rules.specs.declared.Stage.{Stage}
-use Rattle.rules.specs.declared.Stage.TheVariants.{Fresh, After, Over}
+use Rattle.rules.specs.declared.Stage.TheVariants.{Fresh, After}
 use Rattle.rules.specs.Call.{pulling}
 use Rattle.heads.specs.declared.Check.{Check}
 use Rattle.heads.specs.declared.Check.TheVariants as check

@@ -2,13 +2,13 @@
 -- ahead. It holds of every job: a faulty stream's records are those ahead of its first fault.
 use mathlib.Core.Path.{◌≡◌, refl, sym, ◌∙◌}
 use mathlib.Core.Bool.{Bool, true, false, ◌&&◌}
-use mathlib.Core.List.{List, [], ◌∷◌, map}
+use mathlib.Core.List.{List, map}
 use Prim.Native.Nat.{ℕ, ◌≤◌}
 use native.Mathlib.Omega.{arith}
 use lib.Dec.{eqb, leb, ltb}
 use lib.ListN.{length}
 use borrow.Author.Tests.{le-leb, eqb-true}
-use Rattle.basics.specs.Lists.{keep, filter, All, nil, cons, Sorted}
+use Rattle.basics.specs.Lists.{keep, filter, All, cons, Sorted}
 use Rattle.basics.proofs.BoolLaws.{and_left, and_also}
 use Rattle.basics.proofs.ListLaws.{all_map, all_both, all_filter, filter_passes}
 use Rattle.rules.specs.declared.Base.{Base}
@@ -17,9 +17,7 @@ use Rattle.rules.specs.Overlap.{meets, overlaps}
 use Rattle.rules.specs.Job.{Job, merged_of}
 use Rattle.theory.proofs.Modes.{Le}
 use Rattle.theory.proofs.StreamLaws.{merged_sorted, merged_good}
-use Rattle.spans.specs.declared.Span.{Span}
 use Rattle.fragment_rules.specs.declared.Rule.{Rule}
-use Rattle.layouts.specs.declared.Answer.{Answer}
 use Rattle.layouts.specs.declared.Answer.TheVariants as answer
 use Rattle.layouts.specs.declared.Refusal.TheVariants as refusal
 use Rattle.layouts.specs.Layout.{layout}

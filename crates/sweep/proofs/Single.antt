@@ -1,7 +1,7 @@
 -- The call for many bases, of one base: as the call for one says.
-use mathlib.Core.Path.{◌≡◌, refl, sym, ap, subst, ◌∙◌}
+use mathlib.Core.Path.{◌≡◌, refl, sym, subst, ◌∙◌}
 use mathlib.Core.List.{List}
-use Prim.Native.Nat.{ℕ, ◌+◌, ◌<◌, ◌≤◌}
+use Prim.Native.Nat.{ℕ, ◌+◌}
 use native.Mathlib.Omega.{arith}
 use lib.ListN.{length}
 use Rattle.rules.specs.declared.Offer.{Offer}
@@ -11,10 +11,9 @@ use Rattle.rules.specs.declared.Answer.TheVariants as answer
 use Rattle.heads.specs.View.{Cols}
 use Rattle.pulls.specs.Pulls.{Lent}
 use Rattle.runs.specs.declared.Run.{Run}
-use Rattle.runs.specs.declared.Given.{Given}
 use Rattle.step.specs.Give.{Gives}
 use Rattle.many.specs.declared.Passed.{Passed}
-use Rattle.many.specs.Many.{base_at, behind, Stays, Passes, none, one, Unfound, Ends, all, short, other, Even, Answers, GivesAll}
+use Rattle.many.specs.Many.{base_at, behind, Passes, none, one, Unfound, Ends, all, short, other, Even, Answers, GivesAll}
 
 -- of no base answered: where it began
 record Begin (r : Run) (l : Lent) (u : ℕ) (p : Offer) (v : Run) (m : Lent) : Type 0 where

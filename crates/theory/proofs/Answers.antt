@@ -3,40 +3,38 @@ use mathlib.Core.Path.{◌≡◌, refl, sym, ap, ◌∙◌}
 use mathlib.Core.Bool.{Bool, true, false, cond}
 use mathlib.Core.Option.{Option, none, some}
 use mathlib.Core.List.{List, [], ◌∷◌, ◌++◌, map, cons≢nil}
-use Prim.Native.Nat.{ℕ, ◌≤◌, ◌<◌}
+use Prim.Native.Nat.{ℕ, ◌<◌}
 use native.Mathlib.Omega.{arith}
 use lib.Dec.{ltb, leb}
 use lib.ListN.{length, get_or}
 use borrow.Author.Tests.{le-ltb, ltb-true, leb-true}
-use Rattle.basics.specs.Lists.{keep, filter, first_one, first, All, nil, cons, Sorted}
-use Rattle.basics.proofs.BoolLaws.{clash, and_also}
-use Rattle.basics.proofs.ListLaws.{filter_cong, all_of, all_right, all_first}
+use Rattle.basics.specs.Lists.{keep, filter, first_one, first, All, nil, Sorted}
+use Rattle.basics.proofs.BoolLaws.{and_also}
+use Rattle.basics.proofs.ListLaws.{all_right, all_first}
 use Rattle.rules.specs.declared.Base.{Base}
 use Rattle.rules.specs.declared.Refusal.{Refusal}
 use Rattle.rules.specs.declared.Refusal.TheVariants.{Beyond, Unlisted, Unordered, Reversed}
 use Rattle.rules.specs.declared.End.{End}
-use Rattle.rules.specs.declared.End.TheVariants.{NoRoom, NoRows}
+use Rattle.rules.specs.declared.End.TheVariants.{NoRoom}
 use Rattle.rules.specs.declared.Stage.{Stage}
 use Rattle.rules.specs.declared.Stage.TheVariants.{Fresh, After, Over}
-use Rattle.rules.specs.declared.Offer.{Offer}
 use Rattle.rules.specs.declared.Offer.TheVariants.{Nothing}
 use Rattle.rules.specs.Rows.{Record, numbered, good}
 use Rattle.rules.specs.Merge.{Pick, pick, onto}
-use Rattle.rules.specs.Streams.{else, ahead, next, merged, Head, taking}
+use Rattle.rules.specs.Streams.{ahead, next, Head, taking}
 use Rattle.rules.specs.Overlap.{overlaps, taken, live, awaited}
 use Rattle.rules.specs.Pull.{Pull, paused, ends, pull}
-use Rattle.rules.specs.Bases.{not_before, in_order, beyond, judge}
+use Rattle.rules.specs.Bases.{in_order, beyond, judge}
 use Rattle.rules.specs.Offer.{target, place_for, offer}
-use Rattle.rules.specs.Call.{Run, Reply, found, refused, ended, Given, fresh, refuse, end, loading, coming, reporting, after_pull, pulling, accept, judged, by_stage, give}
+use Rattle.rules.specs.Call.{Run, Reply, found, ended, fresh, loading, coming, after_pull, judged, give}
 use Rattle.rules.specs.Job.{Job, lending, onward, replies, answers, merged_of}
-use Rattle.rules.specs.Promise.{crowd, clear, wall, records, struck, ending, unless_ended, unless_refused, said, promised}
-use Rattle.theory.proofs.Mode.{Since, own, due, held}
-use Rattle.theory.proofs.Modes.{Le, Before, before_not, overlap, overlap_laws, due_overlaps, held_crowd, awaits_beyond, since_next}
+use Rattle.rules.specs.Promise.{clear, records, ending, unless_ended, unless_refused, said, promised}
+use Rattle.theory.proofs.Mode.{Since, own, due}
+use Rattle.theory.proofs.Modes.{Le, before_not, overlap, overlap_laws, due_overlaps, held_crowd, awaits_beyond, since_next}
 use Rattle.theory.proofs.StreamLaws.{merged_sorted, merged_good, merged_taking}
-use Rattle.theory.proofs.TakingLaws.{all, Next, all_next, all_none}
-use Rattle.theory.proofs.Stride.{Drawn, halted, broke, stride}
+use Rattle.theory.proofs.TakingLaws.{all, all_next, all_none}
 use Rattle.theory.proofs.Turns.{shown, pull_stride}
-use Rattle.theory.proofs.Calls.{Reached, Answered, Call, stops, fresh_reached, call}
+use Rattle.theory.proofs.Calls.{Reached, Call, stops, fresh_reached, call}
 
 -- ---- 4, 6, 3 and 5
 

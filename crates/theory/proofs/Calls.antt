@@ -1,9 +1,9 @@
 -- One base of a run, for any mode: how the run stands after the bases so far, and what the next one comes to.
 use mathlib.Core.Path.{◌≡◌, refl, sym, ap, ◌∙◌}
-use mathlib.Core.Bool.{Bool, true, false, cond}
+use mathlib.Core.Bool.{false, cond}
 use mathlib.Core.Option.{Option, none, some}
 use mathlib.Core.List.{List, [], ◌∷◌, ◌++◌, map, append_assoc}
-use Prim.Native.Nat.{ℕ, ◌≤◌, ◌<◌}
+use Prim.Native.Nat.{ℕ, ◌≤◌}
 use native.Mathlib.Omega.{arith}
 use lib.Dec.{ltb}
 use lib.ListN.{length}
@@ -13,7 +13,7 @@ use Rattle.basics.proofs.BoolLaws.{and_more, or_left}
 use Rattle.basics.proofs.ListLaws.{filter_append, filter_all, filter_cong, filter_ahead, length_mono, all_of, all_map, all_append, sorted_left, sorted_right, map_append}
 use Rattle.rules.specs.Streams.{Head}
 use Rattle.rules.specs.Promise.{clear, wall, records, struck}
-use Rattle.theory.proofs.Mode.{Mode, Laws, State, Since, walk, step, own, took, due, held, Swept, Good, Tells}
+use Rattle.theory.proofs.Mode.{Mode, Laws, State, Since, step, own, took, due, held, Swept, Good, Tells}
 use Rattle.theory.proofs.Step.{step_tells, took_wait}
 use Rattle.theory.proofs.Stride.{Drawn, halted, broke, unless_broken, sure, walled, wall_faulted, clear_wall, stride, meet, struck_none, stride_walk}
 

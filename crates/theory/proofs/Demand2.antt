@@ -1,18 +1,16 @@
 -- "With room enough and valid streams, each accepted base gets exactly the records of its chromosome with start < base stop and stop > base
 -- start, once each, in the merged order of 01." And with it: "The offer is made exactly as 01 says."
-use mathlib.Core.Path.{◌≡◌, refl, sym, ap, ◌∙◌}
-use mathlib.Core.Bool.{Bool, true, false, cond}
+use mathlib.Core.Path.{◌≡◌, refl, ap, ◌∙◌}
+use mathlib.Core.Bool.{cond}
 use mathlib.Core.Option.{Option, none, some}
 use mathlib.Core.List.{List, [], ◌∷◌, ◌++◌}
-use Prim.Native.Nat.{ℕ, ◌≤◌}
-use lib.Dec.{ltb}
+use Prim.Native.Nat.{◌≤◌}
 use lib.ListN.{length, get_or}
 use borrow.Author.Tests.{le-ltb}
 use Rattle.basics.specs.Lists.{is_some, filter, first_one}
 use Rattle.rules.specs.declared.Base.{Base}
 use Rattle.rules.specs.declared.Refusal.{Refusal}
 use Rattle.rules.specs.declared.Refusal.TheVariants.{Sizes}
-use Rattle.rules.specs.declared.End.TheVariants.{NoRoom}
 use Rattle.rules.specs.Numbers.{number_of}
 use Rattle.rules.specs.Rows.{Record, numbered}
 use Rattle.rules.specs.Overlap.{overlaps}

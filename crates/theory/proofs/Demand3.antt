@@ -1,19 +1,15 @@
 -- Demand 3, of the definitions' own run: "Leaving out bases never changes a report. [..] The offer is made exactly as 01 says. "No room" comes at a
 -- base exactly if more than Q records of its chromosome end after its start and begin before the largest stop given on that chromosome so far,
 -- or the run has ended so. A larger Q agrees until a smaller one refuses."
-use mathlib.Core.Path.{◌≡◌, refl, sym, ap, ◌∙◌}
-use mathlib.Core.Bool.{Bool}
+use mathlib.Core.Path.{◌≡◌, ◌∙◌}
 use mathlib.Core.List.{List, [], ◌∷◌, ◌++◌}
 use Prim.Native.Nat.{ℕ, ◌≤◌}
-use Rattle.basics.specs.Lists.{Pairs, All, nil}
+use Rattle.basics.specs.Lists.{Pairs, nil}
 use Rattle.basics.proofs.ListLaws.{pairs_at}
 use Rattle.rules.specs.declared.Base.{Base}
 use Rattle.rules.specs.declared.Refusal.TheVariants.{Sizes}
-use Rattle.rules.specs.Numbers.{number_of}
-use Rattle.rules.specs.Offer.{offer}
-use Rattle.rules.specs.Call.{Reply, refused, answer_of, offered}
+use Rattle.rules.specs.Call.{refused}
 use Rattle.rules.specs.Job.{Job, answers, merged_of}
-use Rattle.rules.specs.Promise.{said}
 use Rattle.rules.specs.Demands.{ValidStreams, Spot, reply_at, overfull, is_no_room, with_room, Demand3}
 use Rattle.theory.proofs.Answers.{answers_promised}
 use Rattle.theory.proofs.Room.{Agree, room_exact, larger}

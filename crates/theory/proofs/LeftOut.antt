@@ -2,17 +2,16 @@
 -- bases that the last offered place permits. Every base given is then answered or refused as in the full run, and every base left out has no
 -- record there."
 use mathlib.Core.Path.{◌≡◌, refl, sym, ap, ◌∙◌}
-use mathlib.Core.Bool.{Bool, true, false, cond, ◌&&◌, ◌||◌}
-use mathlib.Core.Logic.{◌⊎◌, inl, inr, ⊎_elim}
+use mathlib.Core.Bool.{Bool, true, false, cond}
+use mathlib.Core.Logic.{◌⊎◌, inl, inr}
 use mathlib.Core.Option.{Option, none, some}
 use mathlib.Core.List.{List, [], ◌∷◌, ◌++◌, map}
 use Prim.Native.Nat.{ℕ, ◌-◌, ◌≤◌, ◌<◌}
 use native.Mathlib.Omega.{arith}
-use lib.Dec.{eqb, ltb, leb}
+use lib.Dec.{ltb, leb}
 use lib.ListN.{length, get_or}
-use borrow.Author.Tests.{ltb-true, ltb-false, leb-true, le-ltb, le-leb}
-use Rattle.basics.specs.Lists.{is_some, filter, first, first_one, All, nil, cons, Pairs, Has, here, there}
-use Rattle.basics.specs.Lex.{lex, Lex}
+use borrow.Author.Tests.{ltb-true, leb-true, le-ltb, le-leb}
+use Rattle.basics.specs.Lists.{filter, first_one, All, cons, Pairs, Has, here, there}
 use Rattle.basics.proofs.BoolLaws.{and_left, and_also, clash}
 use Rattle.basics.proofs.ListLaws.{all_map, all_head, all_tail, pairs_map, pairs_to}
 use Rattle.basics.proofs.LexLaws.{lex_true, lex_fail, lex_map, lex_pass}
@@ -36,12 +35,12 @@ use Rattle.rules.specs.Promise.{records, unless_refused, unless_ended, ending, s
 use Rattle.rules.specs.Skip.{Mark, give, skip, every, given, missed, heard, lawful}
 use Rattle.rules.specs.Demands.{ValidStreams, accepted, Spot, Accepted}
 use Rattle.theory.proofs.Mode.{Since}
-use Rattle.theory.proofs.Modes.{Before, before_not, overlap, overlap_laws, due_overlaps, awaits_beyond, since_next}
+use Rattle.theory.proofs.Modes.{Before, overlap, overlap_laws, due_overlaps, awaits_beyond}
 use Rattle.theory.proofs.StreamLaws.{merged_good}
 use Rattle.theory.proofs.ValidLaws.{loads}
 use Rattle.theory.proofs.Calls.{stops}
 use Rattle.theory.proofs.Answers.{judge_order, Chain, start, more, chain_since, same, sorted, stops_ending, answers_promised}
-use Rattle.theory.proofs.Skipping.{InOrder, Idle, Skips, gave, left, from_here, verdicts, skip_same, missed_due, given_order}
+use Rattle.theory.proofs.Skipping.{InOrder, Idle, Skips, gave, left, from_here, verdicts, skip_same, missed_due}
 
 -- ---- a place permits only what draws no record from T on
 

@@ -1,8 +1,8 @@
 -- The modes over records: two tests on numbers say how far a base reaches and how long a record lasts. Overlap is one of them.
-use mathlib.Core.Path.{◌≡◌, refl, sym, ap, ◌∙◌}
+use mathlib.Core.Path.{◌≡◌, refl, sym, ◌∙◌}
 use mathlib.Core.Bool.{Bool, true, false, cond, ◌&&◌, ◌||◌}
-use mathlib.Core.List.{List, [], ◌∷◌}
-use Prim.Native.Nat.{ℕ, suc, ◌+◌, ◌≤◌, ◌<◌, max}
+use mathlib.Core.List.{List, ◌∷◌}
+use Prim.Native.Nat.{ℕ, suc, ◌≤◌, ◌<◌, max}
 use native.Mathlib.Omega.{arith}
 use lib.Dec.{eqb, ltb, leb}
 use borrow.Author.Tests.{ltb-true, ltb-false, leb-true, leb-false, lt-ltb, le-ltb, le-leb, lt-leb, eqb-true, eqb-false, eq-eqb}
@@ -16,7 +16,7 @@ use Rattle.rules.specs.declared.Base.{Base}
 use Rattle.rules.specs.Rows.{Record}
 use Rattle.rules.specs.Overlap.{overlaps, taken, live, awaited}
 use Rattle.rules.specs.Bases.{not_before}
-use Rattle.rules.specs.Promise.{top, crowds, crowd}
+use Rattle.rules.specs.Promise.{top, crowd}
 use Rattle.theory.proofs.Mode.{Mode, Laws, Since, took, due, held}
 
 -- ---- the orders, as facts

@@ -1,6 +1,6 @@
 -- ""No room" comes at a base exactly if more than Q records of its chromosome end after its start and begin before the largest stop given on
 -- that chromosome so far, or the run has ended so. A larger Q agrees until a smaller one refuses."
-use mathlib.Core.Path.{◌≡◌, refl, sym, ap, ◌∙◌}
+use mathlib.Core.Path.{◌≡◌, refl, ap}
 use mathlib.Core.Bool.{Bool, true, false, cond}
 use mathlib.Core.Logic.{◌⊎◌, inl, inr}
 use mathlib.Core.Option.{Option, none, some}

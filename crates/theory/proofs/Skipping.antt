@@ -1,9 +1,9 @@
 -- Leaving out bases that nothing is due to, for any mode: the others are answered or refused as before.
-use mathlib.Core.Path.{◌≡◌, refl, sym, ap, ◌∙◌}
+use mathlib.Core.Path.{◌≡◌, refl, ◌∙◌}
 use mathlib.Core.Bool.{Bool, true, false, cond, ◌&&◌, ◌||◌}
 use mathlib.Core.Option.{Option, none, some}
 use mathlib.Core.List.{List, [], ◌∷◌, ◌++◌, map}
-use Prim.Native.Nat.{ℕ, ◌≤◌, ◌<◌}
+use Prim.Native.Nat.{ℕ, ◌≤◌}
 use native.Mathlib.Omega.{arith}
 use lib.Dec.{ltb}
 use lib.ListN.{length}
@@ -12,7 +12,7 @@ use Rattle.basics.specs.Lists.{filter, first, All, nil, cons, Sorted, Has}
 use Rattle.basics.proofs.BoolLaws.{off, clash, and_comm, and_drop, and_cong, and_both}
 use Rattle.basics.proofs.ListLaws.{filter_cong, filter_none, length_mono, all_map, all_both, all_of, all_at, all_head, all_tail, all_left, all_right, sorted_right, first_none}
 use Rattle.rules.specs.Streams.{Head}
-use Rattle.rules.specs.Promise.{clear, wall, records, struck}
+use Rattle.rules.specs.Promise.{records, struck}
 use Rattle.rules.specs.Skip.{Mark, give, skip, every, given, missed, heard}
 use Rattle.theory.proofs.Mode.{Mode, Laws, Since, took, due, held}
 use Rattle.theory.proofs.Step.{took_live}

@@ -1,9 +1,9 @@
 -- One base: no room exactly if more records are held than there is room for, else the records that are due.
 use mathlib.Core.Path.{◌≡◌, refl, sym, ap, ◌∙◌}
-use mathlib.Core.Bool.{Bool, true, false, cond, ◌&&◌, ◌||◌}
-use mathlib.Core.Option.{Option, none, some}
-use mathlib.Core.List.{List, [], ◌∷◌, ◌++◌, append-nil, append_assoc}
-use Prim.Native.Nat.{ℕ, ◌+◌, ◌≤◌, ◌<◌}
+use mathlib.Core.Bool.{Bool, true, false, cond}
+use mathlib.Core.Option.{none, some}
+use mathlib.Core.List.{List, ◌∷◌, ◌++◌, append_assoc}
+use Prim.Native.Nat.{ℕ}
 use native.Mathlib.Omega.{arith}
 use lib.Dec.{leb}
 use lib.ListN.{length}
@@ -11,8 +11,8 @@ use borrow.Author.Tests.{leb-true, leb-false}
 use Rattle.basics.specs.Lists.{filter, front, back, All, nil, cons, Sorted}
 use Rattle.basics.proofs.BoolLaws.{and_right, and_own, or_true, or_cases, iff}
 use Rattle.basics.proofs.ListLaws.{filter_append, filter_cong, filter_filter, filter_ahead, filter_parted, filter_passes, length_filter, all_of, all_map, all_both, all_append, all_right, sorted_right, front_back, front_all, back_none}
-use Rattle.theory.proofs.Mode.{Mode, State, Laws, Since, step, own, took, due, held, Swept, Good, Tells}
-use Rattle.theory.proofs.Walk.{load, walk_load}
+use Rattle.theory.proofs.Mode.{Mode, State, Laws, Since, step, own, took, due, held, Swept, Tells}
+use Rattle.theory.proofs.Walk.{walk_load}
 
 module _ {R B : Type 0} (m : Mode R B) (laws : Laws m) where
   open m use {le, before, take, live, wait}

@@ -1,24 +1,21 @@
 -- The merged list: each stream's rows ahead of its first fault are in it, each once and in order; it is sorted by chromosome and start;
 -- and where the loading meets no fault, it is the records of the heads in the order in which they are taken.
 use mathlib.Core.Path.{◌≡◌, refl, sym, ap, ◌∙◌}
-use mathlib.Core.Bool.{Bool, true, false, cond, not, ◌&&◌}
+use mathlib.Core.Bool.{Bool, true, false, cond}
 use mathlib.Core.Option.{Option, none, some}
 use mathlib.Core.List.{List, [], ◌∷◌, map}
-use Prim.Native.Nat.{ℕ, zero, suc, ◌+◌, ◌≤◌, ◌<◌}
+use Prim.Native.Nat.{ℕ, zero, suc, ◌+◌}
 use native.Mathlib.Omega.{arith}
-use lib.Dec.{eqb, ltb, leb}
-use lib.ListN.{length, get_or}
-use borrow.Author.Tests.{leb-true, not-true}
-use Rattle.basics.specs.Lists.{is_some, filter, All, nil, cons, Sorted, next}
-use Rattle.basics.specs.Lex.{lex, Lex}
-use Rattle.basics.proofs.BoolLaws.{and_also, clash}
+use lib.Dec.{eqb, leb}
+use lib.ListN.{get_or}
+use borrow.Author.Tests.{leb-true}
+use Rattle.basics.specs.Lists.{filter, All, nil, cons, Sorted, next}
 use Rattle.basics.proofs.ListLaws.{all_map}
 use Rattle.basics.proofs.LexLaws.{lex_true, lex_false, lex_map, lex_refl, lex_trans}
 use Rattle.rules.specs.declared.Row.{Row}
 use Rattle.rules.specs.declared.End.{End}
 use Rattle.rules.specs.declared.End.TheVariants.{Faulty, Unsorted}
 use Rattle.rules.specs.Rows.{Record, number, numbered, good, follows, behind, fault}
-use Rattle.rules.specs.Merge.{merge}
 use Rattle.rules.specs.Streams.{else, unless, check, first_fault, sound, valid, ahead, merged, Head, heads, taking}
 use Rattle.rules.specs.Streams as streams
 use Rattle.rules.specs.Call.{loading}

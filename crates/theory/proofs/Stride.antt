@@ -1,5 +1,5 @@
 -- The walk over heads, with what is wrong behind each: over the clear ones it is the walk over their records, and then it meets the wall.
-use mathlib.Core.Path.{◌≡◌, refl, sym, ap, ◌∙◌}
+use mathlib.Core.Path.{◌≡◌, refl, sym, ap}
 use mathlib.Core.Bool.{Bool, true, false, cond, not}
 use mathlib.Core.Option.{Option, none, some}
 use mathlib.Core.List.{List, [], ◌∷◌, ◌++◌, map}
@@ -8,7 +8,7 @@ use native.Mathlib.Omega.{arith}
 use lib.Dec.{leb}
 use lib.ListN.{length}
 use borrow.Author.Tests.{not-true}
-use Rattle.basics.specs.Lists.{is_some, front, back, All, nil, cons, Sorted, next}
+use Rattle.basics.specs.Lists.{is_some, All, nil, cons, Sorted, next}
 use Rattle.basics.proofs.BoolLaws.{clash}
 use Rattle.basics.proofs.ListLaws.{all_map, all_head, all_right, front_back, front_all}
 use Rattle.rules.specs.Streams.{Head}

@@ -1,5 +1,5 @@
 -- The pull, turn by turn, is the walk over the heads in the order in which they are taken.
-use mathlib.Core.Path.{◌≡◌, refl, sym, ap, ◌∙◌}
+use mathlib.Core.Path.{◌≡◌, refl, ap, ◌∙◌}
 use mathlib.Core.Bool.{Bool, true, false, cond}
 use mathlib.Core.Option.{Option}
 use mathlib.Core.List.{List, [], ◌∷◌, ◌++◌}
@@ -9,9 +9,8 @@ use lib.Dec.{leb}
 use lib.ListN.{length}
 use Rattle.basics.specs.Lists.{total}
 use Rattle.rules.specs.Merge.{Pick, none, one, pick}
-use Rattle.rules.specs.Streams.{Head}
 use Rattle.rules.specs.Pull.{Pull, paused, ends, unless_wrong, turn, turns, pull}
-use Rattle.theory.proofs.MergeLaws.{Took, picked, total_none}
+use Rattle.theory.proofs.MergeLaws.{picked, total_none}
 use Rattle.theory.proofs.TakingLaws.{all, head_of, Next, all_next, all_none}
 use Rattle.theory.proofs.Mode.{Mode}
 use Rattle.theory.proofs.Stride.{Drawn, halted, broke, unless_broken, stride}

@@ -1,14 +1,13 @@
 -- Valid streams: nothing is wrong at the loading or behind a head, so that only a lack of room ends a run.
 use mathlib.Core.Path.{◌≡◌, refl, sym, ap, ◌∙◌}
-use mathlib.Core.Bool.{Bool, true, false, cond, not}
+use mathlib.Core.Bool.{true, false, cond, not}
 use mathlib.Core.Option.{Option, none, some}
 use mathlib.Core.List.{List, [], ◌∷◌, map}
 use Prim.Native.Nat.{ℕ, zero, suc}
 use native.Mathlib.Omega.{arith}
 use lib.Dec.{ltb}
 use lib.ListN.{length, get_or}
-use borrow.Author.Tests.{not-true}
-use Rattle.basics.specs.Lists.{is_some, front, back, All, nil, cons}
+use Rattle.basics.specs.Lists.{is_some, All, nil, cons}
 use Rattle.basics.proofs.BoolLaws.{clash}
 use Rattle.basics.proofs.ListLaws.{all_map, all_mapped, front_whole, back_whole}
 use Rattle.rules.specs.declared.Row.{Row}
@@ -16,10 +15,10 @@ use Rattle.rules.specs.declared.Base.{Base}
 use Rattle.rules.specs.declared.End.{End}
 use Rattle.rules.specs.declared.End.TheVariants.{NoRoom}
 use Rattle.rules.specs.Rows.{Record, number, numbered, fault}
-use Rattle.rules.specs.Streams.{else, unless, check, first_fault, sound, valid, ahead, Head, heads, next, taking}
+use Rattle.rules.specs.Streams.{else, check, first_fault, sound, valid, ahead, heads, next, taking}
 use Rattle.rules.specs.Call.{loading}
 use Rattle.rules.specs.Job.{Job, merged_of}
-use Rattle.rules.specs.Promise.{crowd, clear, wall, records, struck, ending}
+use Rattle.rules.specs.Promise.{crowd, clear, wall, ending}
 use Rattle.rules.specs.Demands.{ValidStreams}
 use Rattle.theory.proofs.MergeLaws.{Each, merge_all}
 use Rattle.theory.proofs.StreamLaws.{numbered_zero, merged_taking}

@@ -1,7 +1,7 @@
 -- "Then say exactly when": for valid streams, 9 comes exactly at the first accepted base that more than Q records overlap. What 9 counts beyond the records
 -- of the base in hand is what an earlier base of its chromosome reached further for, and all of that overlaps the earlier one.
 use mathlib.Core.Path.{◌≡◌, refl, sym, ◌∙◌}
-use mathlib.Core.Bool.{Bool, true, false, cond, ◌&&◌}
+use mathlib.Core.Bool.{Bool, true, false, cond}
 use mathlib.Core.Option.{Option, none, some}
 use mathlib.Core.List.{List, [], ◌∷◌}
 use Prim.Native.Nat.{ℕ, ◌≤◌, max}

@@ -2,11 +2,11 @@
 use mathlib.Core.Path.{◌≡◌, refl, sym, ap, subst, ◌∙◌}
 use mathlib.Core.Bool.{Bool, true, false, cond, ◌&&◌}
 use mathlib.Core.Option.{Option, none, some}
-use mathlib.Core.List.{List, [], ◌∷◌}
-use Prim.Native.Nat.{ℕ, zero, suc, ◌+◌, ◌-◌, ◌*◌, ◌≤◌, ◌<◌}
+use mathlib.Core.List.{List, []}
+use Prim.Native.Nat.{ℕ, zero, suc, ◌+◌, ◌-◌, ◌≤◌}
 use native.Mathlib.Omega.{arith}
-use lib.Dec.{leb, eqb}
-use lib.ListN.{length, get_or, take, length-take}
+use lib.Dec.{leb}
+use lib.ListN.{length, get_or, take}
 use lib.Seq.{length-take-le}
 use borrow.Author.Tests.{eq-eqb}
 use Rattle.basics.specs.Lists.{All, nil, cons}
@@ -16,30 +16,25 @@ use Rattle.rules.specs.declared.Settings.{Settings}
 use Rattle.rules.specs.declared.Unbegun.{Unbegun}
 use Rattle.rules.specs.declared.Unbegun.TheVariants.{Sizes}
 use Rattle.rules.specs.declared.Row.{Row}
-use Rattle.rules.specs.Rows.{Record, number, numbered}
+use Rattle.rules.specs.Rows.{number, numbered}
 use Rattle.rules.specs.Streams.{else}
 use Rattle.rules.specs.Start.{refuses_start}
 use Rattle.rules.specs.Start as start
 use Rattle.rules.specs.Call.{fresh}
 use Rattle.rules.specs.Call as rules
-use Rattle.theory.proofs.MergeLaws.{Each}
-use Rattle.fields.specs.Names.{within, names}
+use Rattle.fields.specs.Names.{names}
 use Rattle.fields.proofs.Naming.{names_length}
 use Rattle.heads.specs.View.{Cols}
 use Rattle.queue.specs.Ring.{Cells}
-use Rattle.runs.specs.declared.Run.{Run}
 use Rattle.runs.specs.declared.start.Begins.TheVariants.{Begun}
-use Rattle.runs.specs.View.{run_of, heads_of}
-use Rattle.pulls.specs.Pulls.{Lent, lent}
-use Rattle.step.specs.Settle.{Going}
-use Rattle.runs.specs.Start.{Plan, plan, row_in, streams_of, counted, evened, ranged, in_rows, in_text, lendable, refused_of, begun_by, start_of, Lends}
+use Rattle.runs.specs.View.{run_of}
+use Rattle.pulls.specs.Pulls.{lent}
+use Rattle.runs.specs.Start.{Plan, row_in, streams_of, counted, evened, in_rows, lendable, refused_of, begun_by, start_of}
 use Rattle.runs.proofs.Starting.{ranged_says}
 use Rattle.runs.proofs.StartLaws.{begun_fresh, begun_right}
-use Rattle.heads.specs.Move.{Shaped}
-use Rattle.demands.specs.Calls.{Blameless}
 use Rattle.demands.proofs.KeptLaws.{each_all}
-use Rattle.inputs.specs.Texts.{Texts, Fault, fault, room, rows_most, bytes_most, bytes_of, names_in, names_of, job_of, sizes_fault, found_fault, list_fault, unbegun_fault, settings_in, streams_fault, fault_of, entries_in, rows_in}
-use Rattle.inputs.specs.Read.{places, Named, Columns, Rooms}
+use Rattle.inputs.specs.Texts.{Texts, fault, room, bytes_most, bytes_of, names_in, names_of, sizes_fault, found_fault, list_fault, unbegun_fault, settings_in, fault_of, entries_in}
+use Rattle.inputs.specs.Read.{places, Named}
 use Rattle.inputs.specs.declared.Read.{Read}
 use Rattle.inputs.proofs.Streaming.{place_at}
 use Rattle.walk.specs.Run.{Own, Comes, Fine, Slots, Begins, plan_of}

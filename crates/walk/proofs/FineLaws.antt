@@ -1,19 +1,18 @@
 -- Texts that were read with nothing wrong: where the list stands in the bytes, and that its names and the bases stand in the columns.
 use mathlib.Core.Path.{◌≡◌, refl, sym, ap, subst, ◌∙◌}
 use mathlib.Core.Bool.{Bool, true, false, cond}
-use mathlib.Core.Option.{Option, none, some}
+use mathlib.Core.Option.{none, some}
 use mathlib.Core.List.{List}
-use Prim.Native.Nat.{ℕ, ◌-◌, ◌≤◌, ◌<◌}
+use Prim.Native.Nat.{ℕ, ◌≤◌, ◌<◌}
 use native.Mathlib.Omega.{arith}
 use native.Mathlib.Nat.{sub-zero}
 use lib.ListN.{length, get_or, take}
 use Rattle.fields.specs.Names.{within}
 use Rattle.heads.specs.View.{Cols}
-use Rattle.inputs.specs.Texts.{Texts, Fault, fault, sizes_fault, fault_of}
+use Rattle.inputs.specs.Texts.{Texts, fault, fault_of}
 use Rattle.inputs.specs.Parted.{texts_of, sized_by}
 use Rattle.inputs.specs.Read.{fault_by, Reads}
 use Rattle.inputs.specs.declared.Read.{Read}
-use Rattle.inputs.specs.declared.Verdict.{Verdict}
 use Rattle.inputs.specs.declared.Verdict.TheVariants as verdict
 use Rattle.inputs.proofs.Parting.{texts_list, texts_sizes}
 use Rattle.inputs.proofs.Reading.{some_texts, list_within}

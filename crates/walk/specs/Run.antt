@@ -1,5 +1,5 @@
 -- A run inside a listing: what its calls keep of it, and what the functions here ask and give.
-use Rattle.std.specs.Prelude.{◌≡◌, true, List, [], ℕ, ◌+◌, ◌≤◌, ◌<◌, length, get_or, take}
+use Rattle.std.specs.Prelude.{◌≡◌, true, List, [], ℕ, ◌+◌, ◌≤◌, length, get_or, take}
 use Rattle.std.proofs.Math.Option.{none}
 use Rattle.basics.specs.Lists.{All}
 use Rattle.rules.specs.Rows.{Record}

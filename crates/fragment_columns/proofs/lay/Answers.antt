@@ -32,31 +32,6 @@ lay_pieces-requires c =
     let h = c.requires.1 in
     (c.requires.0, h.fragments, omega (arith, h.pieces, h.pstart_fits), omega (arith, h.pieces, h.pstop_fits))
 
-pub shape_of-present : goal.shape_of-present
-shape_of-present c =
-    c.present-1.given
-
-pub shape_of-bstart : goal.shape_of-bstart
-shape_of-bstart c =
-    c.bstart-1.given
-
-pub shape_of-bstop : goal.shape_of-bstop
-shape_of-bstop c =
-    c.bstop-1.given
-
-pub shape_of-from : goal.shape_of-from
-shape_of-from c =
-    c.from-1.given
-
-pub shape_of-to : goal.shape_of-to
-shape_of-to c = c.to-1.given
-
-pub shape_of-pstart : goal.shape_of-pstart
-shape_of-pstart c = c.pstart-1.given
-
-pub shape_of-pstop : goal.shape_of-pstop
-shape_of-pstop c = c.pstop-1.given
-
 pub returns : goal.returns
 returns c =
     let a = c.args in

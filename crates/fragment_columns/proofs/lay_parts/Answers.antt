@@ -35,23 +35,11 @@ put_gaps-requires c =
     let s = gaps_stand a.parting a.base (spans a.starts.now a.stops.now) c.in-EachGap.is in
     (h.0, (fits_front (gaps a.base (spans a.starts.now a.stops.now)) a.bstart.now a.bstop.now (h.1 ∙ s.count) h.2 h.3))
 
-pub shape_of-bstart-in-Bare : goal.shape_of-bstart-in-Bare
-shape_of-bstart-in-Bare c = c.bstart-1.given
-
-pub shape_of-bstop-in-Bare : goal.shape_of-bstop-in-Bare
-shape_of-bstop-in-Bare c = c.bstop-1.given
-
 pub returns-in-Bare : goal.returns-in-Bare
 returns-in-Bare c =
     let a = c.args in
     let h = c.requires in
     fronts_alike 0 0 h.1 (same_bare part_start a.parting a.base (spans a.starts.now a.stops.now) c.in-Bare.is) (same_bare part_stop a.parting a.base (spans a.starts.now a.stops.now) c.in-Bare.is) c.fill_both.ensures
-
-pub shape_of-bstart-in-Single : goal.shape_of-bstart-in-Single
-shape_of-bstart-in-Single c = c.bstart-in-Single-1.given
-
-pub shape_of-bstop-in-Single : goal.shape_of-bstop-in-Single
-shape_of-bstop-in-Single c = c.bstop-in-Single-1.given
 
 pub returns-in-Single : goal.returns-in-Single
 returns-in-Single c =
@@ -59,23 +47,11 @@ returns-in-Single c =
     let h = c.requires in
     fronts_alike a.base.start a.base.stop h.1 (same_single part_start a.parting a.base (spans a.starts.now a.stops.now) c.in-Single.is) (same_single part_stop a.parting a.base (spans a.starts.now a.stops.now) c.in-Single.is) c.fill_both-in-Single.ensures
 
-pub shape_of-bstart-in-EachRecord : goal.shape_of-bstart-in-EachRecord
-shape_of-bstart-in-EachRecord c = c.bstart-in-EachRecord-1.given
-
-pub shape_of-bstop-in-EachRecord : goal.shape_of-bstop-in-EachRecord
-shape_of-bstop-in-EachRecord c = c.bstop-in-EachRecord-1.given
-
 pub returns-in-EachRecord : goal.returns-in-EachRecord
 returns-in-EachRecord c =
     let a = c.args in
     let h = c.requires in
     fronts_alike a.base.start a.base.stop h.1 (same_records part_start a.parting a.base (spans a.starts.now a.stops.now) c.in-EachRecord.is) (same_records part_stop a.parting a.base (spans a.starts.now a.stops.now) c.in-EachRecord.is) c.fill_both-in-EachRecord.ensures
-
-pub shape_of-bstart-in-EachClip : goal.shape_of-bstart-in-EachClip
-shape_of-bstart-in-EachClip c = c.bstart-in-EachClip-1.given
-
-pub shape_of-bstop-in-EachClip : goal.shape_of-bstop-in-EachClip
-shape_of-bstop-in-EachClip c = c.bstop-in-EachClip-1.given
 
 pub returns-in-EachClip : goal.returns-in-EachClip
 returns-in-EachClip c =
@@ -83,12 +59,6 @@ returns-in-EachClip c =
     let h = c.requires in
     let s = clips_stand a.parting a.base (spans a.starts.now a.stops.now) c.in-EachClip.is in
     fronts_as s.starts s.stops (fronts c.put_all.ensures (fits_front (all_given Clip a.base (spans a.starts.now a.stops.now)) a.bstart.now a.bstop.now (h.1 ∙ s.count) h.2 h.3))
-
-pub shape_of-bstart-in-EachGap : goal.shape_of-bstart-in-EachGap
-shape_of-bstart-in-EachGap c = c.bstart-in-EachGap-1.given
-
-pub shape_of-bstop-in-EachGap : goal.shape_of-bstop-in-EachGap
-shape_of-bstop-in-EachGap c = c.bstop-in-EachGap-1.given
 
 pub returns-in-EachGap : goal.returns-in-EachGap
 returns-in-EachGap c =

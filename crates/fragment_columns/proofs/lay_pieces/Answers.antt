@@ -20,12 +20,6 @@ put_all-requires c =
     let e = pieces_all (bases a.rule.0 a.base (spans a.starts.now a.stops.now)) (all_given a.rule.1 a.base (spans a.starts.now a.stops.now)) (λ z. c.if-n-eq0.false (h.1 ∙ z)) in
     (h.0, fits_front (all_given a.rule.1 a.base (spans a.starts.now a.stops.now)) a.pstart.now a.pstop.now (ap length e) h.2 h.3)
 
-pub shape_of-pstart : goal.shape_of-pstart
-shape_of-pstart c = c.pstart-1.given
-
-pub shape_of-pstop : goal.shape_of-pstop
-shape_of-pstop c = c.pstop-1.given
-
 pub returns : goal.returns
 returns c =
     let a = c.args in

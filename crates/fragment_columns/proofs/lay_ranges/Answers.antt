@@ -21,12 +21,6 @@ put_ranges-requires c =
     let o : owning a.rule.0 (length (spans a.starts.now a.stops.now)) ≡ true = ap (owning a.rule.0) (length_spans a.starts.now a.stops.now h.0) ∙ sym c.is_owning.ensures ∙ c.if-is_owning.true in
     (h.0, fits_front (spans a.starts.now a.stops.now) a.from.now a.to.now (h.1 ∙ owning_count a.rule.0 a.base (spans a.starts.now a.stops.now) o) h.3 h.4)
 
-pub shape_of-from-then-is_owning : goal.shape_of-from-then-is_owning
-shape_of-from-then-is_owning c = c.from-1.given
-
-pub shape_of-to-then-is_owning : goal.shape_of-to-then-is_owning
-shape_of-to-then-is_owning c = c.to-1.given
-
 pub returns-then-is_owning : goal.returns-then-is_owning
 returns-then-is_owning c =
     let a = c.args in
@@ -37,12 +31,6 @@ returns-then-is_owning c =
 pub fill_both-requires : goal.fill_both-requires
 fill_both-requires c =
     (c.requires.3, c.requires.4)
-
-pub shape_of-from : goal.shape_of-from
-shape_of-from c = c.from-2-1.given
-
-pub shape_of-to : goal.shape_of-to
-shape_of-to c = c.to-2-1.given
 
 pub returns : goal.returns
 returns c =

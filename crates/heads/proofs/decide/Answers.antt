@@ -1,19 +1,12 @@
 -- `decide` meets its contract: no head, or one that stays; else the row behind it decides.
 use Rattle.heads.proofs.MoveLaws.{decided_ends, decided_follows}
-use mathlib.Core.Path.{◌≡◌, sym, ◌∙◌}
+use mathlib.Core.Path.{sym, ◌∙◌}
 use mathlib.Core.List.{List}
-use Prim.Native.Nat.{ℕ, ◌<◌, ◌≤◌}
+use Prim.Native.Nat.{ℕ, ◌<◌}
 use native.Mathlib.Omega.{arith}
 use Rattle.rules.specs.Rows.{Record}
-use Rattle.least.specs.declared.Best.{Best}
-use Rattle.rules.specs.Merge.{pick}
-use Rattle.rules.specs.Streams.{ahead}
-use Rattle.basics.specs.Build.{build}
-use Rattle.least.specs.Fours.{left_at}
-use Rattle.heads.specs.declared.Move.{Move}
-use Rattle.heads.specs.View.{Cols, cols, heads_by}
-use Rattle.least.specs.Least.{least_in}
-use Rattle.heads.specs.Move.{move_of, turn_of, behind_by}
+use Rattle.heads.specs.View.{Cols, cols}
+use Rattle.heads.specs.Move.{behind_by}
 use Rattle.heads.proofs.Fours.{turned}
 use Rattle.heads.proofs.MoveLaws.{Chosen, chosen, stays_none, stays_untaken}
 use Rattle.heads.proofs.decide.Goals as goal

@@ -38,17 +38,6 @@ check_verdict-requires c = tt
 pub first-requires : goal.first-requires
 first-requires c = tt
 
-pub shape_of-from : goal.shape_of-from
-shape_of-from c =
-    c.from-1.given
-
-pub shape_of-to : goal.shape_of-to
-shape_of-to c =
-    c.to-1.given
-
-pub shape_of-len : goal.shape_of-len
-shape_of-len c = c.len-1.given
-
 pub returns : goal.returns
 returns c =
     (names_got _ _ _ _ _ _ _ _ c.requires.0 c.requires.1 c.requires.2 c.read_list-r.ensures c.rows_ahead-n.ensures c.check_list-c.ensures c.verdict_at.ensures c.check_verdict.ensures c.first.ensures, from_long _ _ _ _ _ _ _ _ c.requires.0 c.requires.1 c.requires.2 c.read_list-r.ensures, to_long _ _ _ _ _ _ _ _ c.requires.0 c.requires.1 c.requires.2 c.read_list-r.ensures, len_long _ _ _ _ _ _ _ _ c.requires.0 c.requires.1 c.requires.2 c.read_list-r.ensures)

@@ -88,28 +88,6 @@ pub shape_of-len : goal.shape_of-len
 shape_of-len c =
     omega (arith, c.read_names-named.ensures.3, c.requires.lengths)
 
-pub shape_of-bchrom : goal.shape_of-bchrom
-shape_of-bchrom c =
-    c.bchrom-1.given
-
-pub shape_of-bstart : goal.shape_of-bstart
-shape_of-bstart c =
-    c.bstart-1.given
-
-pub shape_of-bstop : goal.shape_of-bstop
-shape_of-bstop c =
-    c.bstop-1.given
-
-pub shape_of-chrom : goal.shape_of-chrom
-shape_of-chrom c =
-    c.chrom-1.given
-
-pub shape_of-start : goal.shape_of-start
-shape_of-start c = c.start-1.given
-
-pub shape_of-stop : goal.shape_of-stop
-shape_of-stop c = c.stop-1.given
-
 pub returns : goal.returns
 returns c =
     texts_read _ _ _ _ _ _ _ _ _ _ _ (sym c.is_sized.ensures ∙ c.if-not-is_sized.false) c.read_names-named.ensures.0 c.read_names-named.ensures.1 c.read_names-named.ensures.2 c.read_names-named.ensures.3 c.read_part-r.ensures c.requires.base_chrom c.requires.base_start c.requires.base_stop c.read_streams-s.ensures _ _ _ _ _ c.verdict_at.ensures c.first.ensures c.first-2.ensures c.rows_ahead.ensures refl

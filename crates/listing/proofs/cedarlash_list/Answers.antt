@@ -5,9 +5,6 @@ use Rattle.listing.proofs.cedarlash_list.Goals as goal
 pub told-requires : goal.told-requires
 told-requires c = tt
 
-pub shape_of-out : goal.shape_of-out
-shape_of-out c = c.out-1.given
-
 pub returns : goal.returns
 returns c =
     told_written c.list_columns-l.ensures c.told.ensures

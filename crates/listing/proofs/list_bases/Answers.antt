@@ -3,6 +3,7 @@ use Rattle.listing.proofs.Telling.{telling_start, telling_end, telling_done, tel
 use Rattle.pulls.specs.Pulls.{lent}
 use native.Mathlib.Omega.{arith}
 use mathlib.Core.Path.{refl, sym, ◌∙◌}
+use Rattle.std.proofs.Common.{rules}
 use Rattle.listing.proofs.list_bases.Goals as goal
 
 pub loop-i-init : goal.loop-i-init
@@ -20,18 +21,6 @@ overflow_add-i c =
 pub step_after-step-requires : goal.step_after-step-requires
 step_after-step-requires c = tt
 
-pub shape_of-queue-in_default : goal.shape_of-queue-in_default
-shape_of-queue-in_default c =
-    c.queue-1.given ∙ c.loop-i.invariant.1.queue
-
-pub shape_of-answers-in_default : goal.shape_of-answers-in_default
-shape_of-answers-in_default c =
-    c.answers-1.given ∙ c.loop-i.invariant.1.answers
-
-pub shape_of-out-in_default : goal.shape_of-out-in_default
-shape_of-out-in_default c =
-    c.out-1.given ∙ c.loop-i.invariant.1.buffer
-
 pub returns-in_default : goal.returns-in_default
 returns-in_default c =
     telling_done c.loop-i.invariant.0 c.loop-i-test.true c.list_row-x.ensures (sym c.step_after-step.ensures ∙ c.in_default.is)
@@ -42,7 +31,7 @@ loop-i-smaller c =
 
 pub loop-i-preserved : goal.loop-i-preserved
 loop-i-preserved c =
-    (telling_on c.loop-i.invariant.0 c.loop-i-test.true c.list_row-x.ensures (sym c.step_after-step.ensures ∙ c.in-On.is) c.answers-1.given, record { queue = c.queue-1.given ∙ c.loop-i.invariant.1.queue; answers = c.answers-1.given ∙ c.loop-i.invariant.1.answers; buffer = c.out-1.given ∙ c.loop-i.invariant.1.buffer })
+    (telling_on c.loop-i.invariant.0 c.loop-i-test.true c.list_row-x.ensures (sym c.step_after-step.ensures ∙ c.in-On.is) (search rules), record { queue = omega (arith, c.loop-i.invariant.1.queue); answers = omega (arith, c.loop-i.invariant.1.answers); buffer = omega (arith, c.loop-i.invariant.1.buffer) })
 
 pub shape_of-queue : goal.shape_of-queue
 shape_of-queue c = c.loop-i.invariant.1.queue

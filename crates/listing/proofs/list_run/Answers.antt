@@ -34,9 +34,6 @@ pub list_bases-requires : goal.list_bases-requires
 list_bases-requires c =
     (bases_read c.args.bytes.now c.args.ends.now c.requires, run_comes c.args.bytes.now c.args.ends.now c.requires c.begin-run.ensures _ refl, refl)
 
-pub shape_of-out : goal.shape_of-out
-shape_of-out c = c.out-1.given
-
 pub returns : goal.returns
 returns c =
     run_listed c.args.bytes.now c.args.ends.now c.requires c.begin-run.ensures _ c.list_bases.ensures

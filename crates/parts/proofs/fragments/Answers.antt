@@ -35,29 +35,6 @@ lay-requires c =
     let s : sized_of (lens_of a.starts.now a.stops.now cs) ≡ true = sym c.is_sized.ensures ∙ c.if-not-is_sized.false in
     ((sized (lens_of a.starts.now a.stops.now cs) s).records, ready_at a.a a.b a.base a.starts.now a.stops.now cs s c.rule_of-rule.ensures c.judge-answer.ensures c.in-Written.is)
 
-pub shape_of-present : goal.shape_of-present
-shape_of-present c =
-    c.present-1.given
-
-pub shape_of-bstart : goal.shape_of-bstart
-shape_of-bstart c =
-    c.bstart-1.given
-
-pub shape_of-bstop : goal.shape_of-bstop
-shape_of-bstop c = c.bstop-1.given
-
-pub shape_of-from : goal.shape_of-from
-shape_of-from c = c.from-1.given
-
-pub shape_of-to : goal.shape_of-to
-shape_of-to c = c.to-1.given
-
-pub shape_of-pstart : goal.shape_of-pstart
-shape_of-pstart c = c.pstart-1.given
-
-pub shape_of-pstop : goal.shape_of-pstop
-shape_of-pstop c = c.pstop-1.given
-
 pub returns-in-Written : goal.returns-in-Written
 returns-in-Written c =
     let a = c.args in

@@ -14,15 +14,6 @@ pub put_answer-lines-requires : goal.put_answer-lines-requires
 put_answer-lines-requires c =
     reply_backs c.give-given.ensures c.args.run.from
 
-pub shape_of-queue : goal.shape_of-queue
-shape_of-queue c = c.queue-1.given
-
-pub shape_of-answers : goal.shape_of-answers
-shape_of-answers c = c.answers-1.given
-
-pub shape_of-out : goal.shape_of-out
-shape_of-out c = c.out-1.given
-
 pub returns : goal.returns
 returns c =
     reply_lists c.give-given.ensures c.args.name.now c.args.row c.args.out.now c.args.at _ c.put_answer-lines.ensures

@@ -19,21 +19,12 @@ only-requires c = tt
 pub only-requires-in-Ended : goal.only-requires-in-Ended
 only-requires-in-Ended c = tt
 
-pub shape_of-out-in-Found : goal.shape_of-out-in-Found
-shape_of-out-in-Found c = c.out-1.given
-
 pub returns-in-Found : goal.returns-in-Found
 returns-in-Found c = rw c.in-Found.is c.put_found.ensures
-
-pub shape_of-out-in-Refused : goal.shape_of-out-in-Refused
-shape_of-out-in-Refused c = c.out-in-Refused-1.given
 
 pub returns-in-Refused : goal.returns-in-Refused
 returns-in-Refused c =
     rw (c.in-Refused.is, c.only.ensures) (lays_only _ (omega arith) (rw c.refusal_number.ensures at c.put_x-put.ensures))
-
-pub shape_of-out-in-Ended : goal.shape_of-out-in-Ended
-shape_of-out-in-Ended c = c.out-in-Ended-1.given
 
 pub returns-in-Ended : goal.returns-in-Ended
 returns-in-Ended c = rw (c.in-Ended.is, c.only-in-Ended.ensures) (lays_only _ (omega arith) c.put_end-put.ensures)

@@ -1,5 +1,4 @@
 -- `replies::put_found` meets its contract: one line, and the records' behind it. Assumes nothing.
-use mathlib.Core.Path.{◌∙◌}
 use Rattle.lines.proofs.Putting.{puts_inside}
 use Rattle.lines.proofs.LaidLaws.{lays_more, lays_stop}
 use Rattle.replies.proofs.put_found.Goals as goal
@@ -8,15 +7,9 @@ pub put_records-requires : goal.put_records-requires
 put_records-requires c =
     (puts_inside (rw c.in-At.is at c.put_b-put.ensures), c.requires.1)
 
-pub shape_of-out-in-At : goal.shape_of-out-in-At
-shape_of-out-in-At c = c.out-in-At-1.given ∙ c.out-1.given
-
 pub returns-in-At : goal.returns-in-At
 returns-in-At c =
     lays_more _ (rw c.in-At.is at c.put_b-put.ensures) c.put_records.ensures
-
-pub shape_of-out-in-Full : goal.shape_of-out-in-Full
-shape_of-out-in-Full c = c.out-1.given
 
 pub returns-in-Full : goal.returns-in-Full
 returns-in-Full c =

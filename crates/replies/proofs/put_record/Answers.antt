@@ -1,5 +1,5 @@
 -- `replies::put_record` meets its contract. Assumes nothing.
-use Rattle.replies.proofs.Writing.{record-put}
+use Rattle.replies.proofs.Writing.{record_put}
 use Rattle.replies.proofs.put_record.Goals as goal
 
 pub place_at-first-requires : goal.place_at-first-requires
@@ -11,9 +11,6 @@ value_at-begins-requires c = tt
 pub value_at-ends-requires : goal.value_at-ends-requires
 value_at-ends-requires c = tt
 
-pub shape_of-out : goal.shape_of-out
-shape_of-out c = c.out-1.given
-
 pub returns : goal.returns
 returns c =
-    record-put c.args.start.now c.args.stop.now c.args.from.now c.args.stream c.args.row c.place_at-first.ensures c.value_at-begins.ensures c.value_at-ends.ensures c.put_r.ensures
+    record_put c.args.start.now c.args.stop.now c.args.from.now c.args.stream c.args.row c.place_at-first.ensures c.value_at-begins.ensures c.value_at-ends.ensures c.put_r.ensures

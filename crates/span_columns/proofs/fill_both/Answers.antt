@@ -7,11 +7,5 @@ fill-requires c = c.requires.0
 pub fill-requires-2 : goal.fill-requires-2
 fill-requires-2 c = c.requires.1
 
-pub shape_of-starts : goal.shape_of-starts
-shape_of-starts c = c.starts-1.given
-
-pub shape_of-stops : goal.shape_of-stops
-shape_of-stops c = c.stops-1.given
-
 pub returns : goal.returns
 returns c = record { starts_are = c.fill.ensures; stops_are = c.fill-2.ensures }

@@ -1,5 +1,4 @@
 -- `span_columns::put_outside` meets its contract: two stretches, one behind the other. Assumes nothing.
-use mathlib.Core.Path.{◌∙◌}
 use Rattle.spans.specs.Spans.{before, after}
 use Rattle.span_columns.proofs.Writing.{fits_first, fits_second, puts_both}
 use Rattle.span_columns.proofs.put_outside.Goals as goal
@@ -19,13 +18,6 @@ pub put_stretch-requires : goal.put_stretch-requires
 put_stretch-requires c =
     let a = c.args in
     rw c.after_begin-begin.ensures (fits_second (before a.base a.r) (after a.base a.r) _ _ _ (rw c.before_end-end.ensures at c.put_stretch-middle.ensures) c.requires)
-
-pub shape_of-starts : goal.shape_of-starts
-shape_of-starts c =
-    c.starts-2-1.given ∙ c.starts-1.given
-
-pub shape_of-stops : goal.shape_of-stops
-shape_of-stops c = c.stops-2-1.given ∙ c.stops-1.given
 
 pub returns : goal.returns
 returns c =

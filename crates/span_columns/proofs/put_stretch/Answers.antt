@@ -8,12 +8,6 @@ pub put_span-requires : goal.put_span-requires
 put_span-requires c =
     omega (arith, rw (lt-ltb _ _ c.if-a-e.true) at c.requires.starts_fit, rw (lt-ltb _ _ c.if-a-e.true) at c.requires.stops_fit)
 
-pub shape_of-starts-then-a-e : goal.shape_of-starts-then-a-e
-shape_of-starts-then-a-e c = c.starts-1.given
-
-pub shape_of-stops-then-a-e : goal.shape_of-stops-then-a-e
-shape_of-stops-then-a-e c = c.stops-1.given
-
 pub returns-then-a-e : goal.returns-then-a-e
 returns-then-a-e c =
     rw (lt-ltb _ _ c.if-a-e.true) c.put_span.ensures

@@ -8,14 +8,5 @@ read_list-r-requires c = tt
 pub tally_of-requires : goal.tally_of-requires
 tally_of-requires c = tt
 
-pub shape_of-from : goal.shape_of-from
-shape_of-from c = c.from-1.given
-
-pub shape_of-to : goal.shape_of-to
-shape_of-to c = c.to-1.given
-
-pub shape_of-len : goal.shape_of-len
-shape_of-len c = c.len-1.given
-
 pub returns : goal.returns
 returns c = tallies_so c.read_list-r.ensures c.tally_of.ensures

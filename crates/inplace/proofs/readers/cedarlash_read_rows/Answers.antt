@@ -8,14 +8,5 @@ read_rows-r-requires c = tt
 pub tally_of-requires : goal.tally_of-requires
 tally_of-requires c = tt
 
-pub shape_of-chrom : goal.shape_of-chrom
-shape_of-chrom c = c.chrom-1.given
-
-pub shape_of-start : goal.shape_of-start
-shape_of-start c = c.start-1.given
-
-pub shape_of-stop : goal.shape_of-stop
-shape_of-stop c = c.stop-1.given
-
 pub returns : goal.returns
 returns c = tallies_so c.read_rows-r.ensures c.tally_of.ensures

@@ -1,7 +1,6 @@
 -- `Ring::live_ahead`: at each turn, all that was passed is live.
 use mathlib.Core.Path.{sym, ◌∙◌}
 use native.Mathlib.Omega.{arith}
-use borrow.Author.Tests.{not-true, not-false}
 use Rattle.queue.proofs.Clearing.{leading_next, leading_stop, leading_end}
 use Rattle.queue.proofs.Ring.live_ahead.Goals as goal
 
