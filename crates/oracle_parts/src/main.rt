@@ -3,8 +3,11 @@
 // A line: A B base_start base_stop n, n records, F, then for each fragment: present bstart bstop k, k pieces; `#` starts a comment line.
 #![tactic(auto)]
 
-use libc::STDOUT_FILENO;
+ghost use Rattle.std.specs.Prelude.{◌≤◌, length, IfOk};
+
 use parts::{Answer, Choice, Span};
+use std::io::Read;
+use std::{fs, io};
 use tests_shared::{Num, at, is_end, line_end, matches, more, nothing, number};
 
 // n records from a place on, into two columns; the place behind them.
@@ -276,27 +279,40 @@ fn replay_all(text: &[u8]) -> Tally {
 }
 
 // A word, a number and a line's end.
-fn say(word: &[u8], n: u64) {
-    io::write_all(STDOUT_FILENO, word);
-    io::print_decimal(STDOUT_FILENO, n);
-    io::write_all(STDOUT_FILENO, b"\n");
+fn say(rt: &impl Print, word: &[u8], n: u64) -> io::Result<()> {
+    rt.write_all(word)?;
+    rt.println(n)
 }
 
-fn main() {
-    let path = b"parts.txt";
-    let fd = os::open_read(path);
-    if fd < 0 {
-        os::fail(path);
-        return;
+// Reads until the buffer is full or the input ends; how many bytes were put at its start.
+fn read_full(input: &mut impl Read, buf: &mut [u8]) -> io::Result<usize>
+    ensures { IfOk result (λ n. n ≤ length buf.new) }
+{
+    let mut done: usize = 0;
+    while done < buf.len() {
+        let n = input.read(&mut buf[done..])?;
+        if n == 0 {
+            return Ok(done);
+        }
+        done += n;
     }
-    let mut buffer = io::large_buffer();
-    let n = io::read_full(fd, &mut buffer);
-    libc::close(fd);
+    Ok(done)
+}
+
+fn main(rt: HostRuntime) -> io::Result<()> {
+    let path = "parts.txt";
+    let mut file = match fs::open(&rt, path) {
+        Ok(file) => file,
+        Err(e) => return eprintln!(rt; "{path}: {e}"),
+    };
+    let mut buffer = [0u8; 65536];
+    let n = read_full(&mut file, &mut buffer)?;
     let t = replay_all(&buffer[..n]);
-    say(b"bytes ", n as u64);
-    say(b"jobs ", t.jobs);
-    say(b"differences ", t.differ);
+    say(&rt, b"bytes ", n as u64)?;
+    say(&rt, b"jobs ", t.jobs)?;
+    say(&rt, b"differences ", t.differ)?;
     if 0 < t.differ {
-        say(b"first at line ", t.first);
+        say(&rt, b"first at line ", t.first)?;
     }
+    Ok(())
 }

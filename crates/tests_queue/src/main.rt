@@ -2,13 +2,13 @@
 // room of one, and writes what waits after each step.
 #![tactic(auto)]
 
-ghost use Rattle.std.specs.Prelude.{◌≡◌, ◌≤◌, ◌<◌, length};
+ghost use Rattle.std.specs.Prelude.{◌≡◌, ◌≤◌, ◌<◌, length, IfOk};
 ghost use Rattle.queue.specs.Ring.{Fair};
 ghost use Rattle.tests_queue.specs.Ready.{Ready};
 
-use libc::STDOUT_FILENO;
 use queue::{Front, Pushed, Ring, Slot};
 use rules::{Base, Chrom, Stream};
+use std::io;
 
 // A push: 0, stream, row, start, stop. A base: 1, chromosome, start, stop.
 const STEPS: [[u64; 5]; 20] = [
@@ -35,24 +35,18 @@ const STEPS: [[u64; 5]; 20] = [
 ];
 
 // An answer row: stream and row.
-fn show_hit(stream: u64, row: u64) {
-    io::write_all(STDOUT_FILENO, b" ");
-    io::print_decimal(STDOUT_FILENO, stream);
-    io::write_all(STDOUT_FILENO, b"/");
-    io::print_decimal(STDOUT_FILENO, row);
+fn show_hit(rt: &impl Print, stream: u64, row: u64) -> io::Result<()> {
+    print!(rt; " {stream}/{row}")
 }
 
 // A record: stream, row, start and stop.
-fn show_record(stream: u64, row: u64, start: u64, stop: u64) {
-    show_hit(stream, row);
-    io::write_all(STDOUT_FILENO, b":");
-    io::print_decimal(STDOUT_FILENO, start);
-    io::write_all(STDOUT_FILENO, b"-");
-    io::print_decimal(STDOUT_FILENO, stop);
+fn show_record(rt: &impl Print, stream: u64, row: u64, start: u64, stop: u64) -> io::Result<()> {
+    show_hit(rt, stream, row)?;
+    print!(rt; ":{start}-{stop}")
 }
 
 // What waits, the oldest first.
-fn show_waiting(ring: Ring, queue: &[[u64; 4]])
+fn show_waiting(rt: &impl Print, ring: Ring, queue: &[[u64; 4]]) -> io::Result<()>
     requires { Fair ring queue.now }
 {
     let head = ring.head;
@@ -62,108 +56,110 @@ fn show_waiting(ring: Ring, queue: &[[u64; 4]])
     while k < len {
         let at = queue::place_of(head, room, k);
         let x = queue[at];
-        show_record(x[0], x[1], x[2], x[3]);
+        show_record(rt, x[0], x[1], x[2], x[3])?;
         k += 1;
     }
+    Ok(())
 }
 
 // The end of a line: a bar and what waits.
-fn show(ring: Ring, queue: &[[u64; 4]])
+fn show(rt: &impl Print, ring: Ring, queue: &[[u64; 4]]) -> io::Result<()>
     requires { Fair ring queue.now }
 {
-    io::write_all(STDOUT_FILENO, b" |");
-    show_waiting(ring, queue);
-    io::write_all(STDOUT_FILENO, b"\n");
+    print!(rt; " |")?;
+    show_waiting(rt, ring, queue)?;
+    println!(rt)
 }
 
 // The first n answer rows.
-fn show_hits(n: usize, answers: &[[u64; 2]])
+fn show_hits(rt: &impl Print, n: usize, answers: &[[u64; 2]]) -> io::Result<()>
     requires { n ≤ length answers.now }
 {
     let mut i: usize = 0;
     while i < n {
         let x = answers[i];
-        show_hit(x[0], x[1]);
+        show_hit(rt, x[0], x[1])?;
         i += 1;
     }
+    Ok(())
 }
 
 // Where the first that waits starts.
-fn show_front(f: Front) {
-    io::write_all(STDOUT_FILENO, b" front ");
+fn show_front(rt: &impl Print, f: Front) -> io::Result<()> {
     match f {
-        Front::At(start) => {
-            io::print_decimal(STDOUT_FILENO, start);
-        }
-        Front::Nothing => {
-            io::write_all(STDOUT_FILENO, b"none");
-        }
+        Front::At(start) => print!(rt; " front {start}"),
+        Front::Nothing => print!(rt; " front none"),
     }
 }
 
 // A record that is pushed.
-fn show_push(slot: Slot) {
+fn show_push(rt: &impl Print, slot: Slot) -> io::Result<()> {
     let named = slot.stream;
-    io::write_all(STDOUT_FILENO, b"push");
-    show_record(named.0, slot.row, slot.start, slot.stop);
+    print!(rt; "push")?;
+    show_record(rt, named.0, slot.row, slot.start, slot.stop)
 }
 
 // A base: chromosome, start and stop.
-fn show_base(b: Base) {
+fn show_base(rt: &impl Print, b: Base) -> io::Result<()> {
     let its = b.chrom;
-    io::write_all(STDOUT_FILENO, b"base ");
-    io::print_decimal(STDOUT_FILENO, its.0);
-    io::write_all(STDOUT_FILENO, b":");
-    io::print_decimal(STDOUT_FILENO, b.start);
-    io::write_all(STDOUT_FILENO, b"-");
-    io::print_decimal(STDOUT_FILENO, b.stop);
+    print!(rt; "base {}:{}-{}", its.0, b.start, b.stop)
 }
 
 // A line that opens a run of the steps.
-fn show_room(room: usize) {
-    io::write_all(STDOUT_FILENO, b"room ");
-    io::print_decimal(STDOUT_FILENO, room as u64);
-    io::write_all(STDOUT_FILENO, b"\n");
+fn show_room(rt: &impl Print, room: usize) -> io::Result<()> {
+    println!(rt; "room {room}")
 }
 
 // One record is pushed.
-fn push_step(ring: Ring, queue: &mut [[u64; 4]], slot: Slot) -> Ring
+fn push_step(rt: &impl Print, ring: Ring, queue: &mut [[u64; 4]], slot: Slot) -> io::Result<Ring>
     requires { Fair ring queue.old }
-    ensures { Fair result queue.new × (result.room ≡ ring.room) }
+    ensures { IfOk result (λ r. Fair r queue.new × (r.room ≡ ring.room)) }
 {
-    show_push(slot);
+    show_push(rt, slot)?;
     let pushed = ring.push(queue, slot);
     match pushed {
         Pushed::Done(after) => {
-            show(after, queue);
-            after
+            show(rt, after, queue)?;
+            Ok(after)
         }
         Pushed::Full => {
-            io::write_all(STDOUT_FILENO, b" full");
-            show(ring, queue);
-            ring
+            print!(rt; " full")?;
+            show(rt, ring, queue)?;
+            Ok(ring)
         }
     }
 }
 
 // A base comes: the queue is cleared for it and its records are written.
-fn base_step(ring: Ring, queue: &mut [[u64; 4]], answers: &mut [[u64; 2]], b: Base) -> Ring
+fn base_step(
+    rt: &impl Print,
+    ring: Ring,
+    queue: &mut [[u64; 4]],
+    answers: &mut [[u64; 2]],
+    b: Base,
+) -> io::Result<Ring>
     requires { Ready ring queue.old answers.old }
-    ensures { Fair result queue.new × (result.room ≡ ring.room) }
+    ensures { IfOk result (λ r. Fair r queue.new × (r.room ≡ ring.room)) }
 {
-    show_base(b);
+    show_base(rt, b)?;
     let after = ring.clear(queue, b);
     let n = after.scan(queue, b, answers);
-    show_hits(n, answers);
-    show_front(after.front(queue));
-    show(after, queue);
-    after
+    show_hits(rt, n, answers)?;
+    show_front(rt, after.front(queue))?;
+    show(rt, after, queue)?;
+    Ok(after)
 }
 
 // One step of the table.
-fn play(ring: Ring, queue: &mut [[u64; 4]], answers: &mut [[u64; 2]], step: [u64; 5]) -> Ring
+fn play(
+    rt: &impl Print,
+    ring: Ring,
+    queue: &mut [[u64; 4]],
+    answers: &mut [[u64; 2]],
+    step: [u64; 5],
+) -> io::Result<Ring>
     requires { Ready ring queue.old answers.old }
-    ensures { Fair result queue.new × (result.room ≡ ring.room) }
+    ensures { IfOk result (λ r. Fair r queue.new × (r.room ≡ ring.room)) }
 {
     if step[0] == 0 {
         let slot = Slot {
@@ -172,36 +168,37 @@ fn play(ring: Ring, queue: &mut [[u64; 4]], answers: &mut [[u64; 2]], step: [u64
             start: step[3],
             stop: step[4],
         };
-        return push_step(ring, queue, slot);
+        return push_step(rt, ring, queue, slot);
     }
     let b = Base {
         chrom: Chrom(step[1]),
         start: step[2],
         stop: step[3],
     };
-    base_step(ring, queue, answers, b)
+    base_step(rt, ring, queue, answers, b)
 }
 
 // All steps, over a ring with as many slots as were lent.
-fn drive(queue: &mut [[u64; 4]], answers: &mut [[u64; 2]])
+fn drive(rt: &impl Print, queue: &mut [[u64; 4]], answers: &mut [[u64; 2]]) -> io::Result<()>
     requires { (0 < length queue.old) × (length queue.old ≤ 65536) × (length answers.old ≡ length queue.old) }
 {
     let room = queue.len();
-    show_room(room);
+    show_room(rt, room)?;
     let mut ring = Ring::empty(room, Chrom(0));
     let mut i: usize = 0;
     while i < 20 {
         let step = STEPS[i];
-        ring = play(ring, queue, answers, step);
+        ring = play(rt, ring, queue, answers, step)?;
         i += 1;
     }
+    Ok(())
 }
 
-fn main() {
+fn main(rt: HostRuntime) -> io::Result<()> {
     let mut queue = [[0u64; 4]; 3];
     let mut answers = [[0u64; 2]; 3];
-    drive(&mut queue, &mut answers);
+    drive(&rt, &mut queue, &mut answers)?;
     let mut slot = [[0u64; 4]; 1];
     let mut row = [[0u64; 2]; 1];
-    drive(&mut slot, &mut row);
+    drive(&rt, &mut slot, &mut row)
 }

@@ -1,0 +1,9 @@
+-- `push_step`: by the two answers of a push.
+use Rattle.tests_queue.proofs.push_step.Goals as goal
+
+pub show-requires : goal.show-requires
+show-requires g c = (c.push-pushed.ensures.done _ c.in-Done.is).fair
+
+pub returns-in_ok-show-in-Done : goal.returns-in_ok-show-in-Done
+returns-in_ok-show-in-Done g c =
+    ((c.push-pushed.ensures.done _ c.in-Done.is).fair, (c.push-pushed.ensures.done _ c.in-Done.is).room)
