@@ -48,7 +48,7 @@ module _ (bytes ends : List ℕ) {from to len : List ℕ} {b s : Cols} {r : Read
         let bases : build (base_in b) r.bases 0 ≡ bases_of t = f.columns.bases in
         let ns : names list (take r.names from) (take r.names to) ≡ names_of t = ap (λ (l : List ℕ). names l (take r.names from) (take r.names to)) (sym (list_is bytes ends f)) ∙ f.columns.names.named in
         ap (λ (u : Run). lines_from (names list (take r.names from) (take r.names to)) (take r.names len) b s r.bases 0 u c) is
-        ∙ ap (λ (x : rules.Run). run_lines (names list (take r.names from) (take r.names to)) 0 (build (base_in b) r.bases 0) (replies (lengths_of (take r.names len)) room x (build (base_in b) r.bases 0))) (run_begins.fresh_run_lem c)
+        ∙ ap (λ (x : rules.Run). run_lines (names list (take r.names from) (take r.names to)) 0 (build (base_in b) r.bases 0) (replies (lengths_of (take r.names len)) room x (build (base_in b) r.bases 0))) (run_begins.fresh_run c)
         ∙ ap (λ (bs : List Base). run_lines (names list (take r.names from) (take r.names to)) 0 bs (replies (lengths_of (take r.names len)) room (fresh (job_of t).streams) bs)) bases
         ∙ ap (λ (l : List ℕ). run_lines (names list (take r.names from) (take r.names to)) 0 (bases_of t) (replies (lengths_of l) room (fresh (job_of t).streams) (bases_of t))) f.columns.names.lengths
         ∙ ap (λ (k : List (List ℕ)). run_lines k 0 (bases_of t) (answers (job_of t) (bases_of t))) ns

@@ -161,5 +161,5 @@ module _ {t : Texts} {r : Read} {list from to len : List ℕ} {b s : Cols} (is-l
   pub begins : Begins t r.names len s (start_of p).run
   begins = record {
     comes = comes;
-    fresh_run_lem = λ c. fresh_is c ∙ ap (λ (n : ℕ). fresh (streams_of s n places r.to)) f.columns.streams ∙ ap fresh f.columns.rows;
+    fresh_run = λ c. fresh_is c ∙ ap (λ (n : ℕ). fresh (streams_of s n places r.to)) f.columns.streams ∙ ap fresh f.columns.rows;
   }

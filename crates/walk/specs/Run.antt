@@ -54,4 +54,4 @@ plan_of r list from to s = plan (record { streams = r.streams; chroms = r.names;
 -- the run that begins is the job's own, with any memory for its queue
 pub record Begins (t : Texts) (n : ℕ) (len : List ℕ) (s : Cols) (r : Run) : Type 0 where
   pub comes : (c : Cells) → Slots c → Comes s (take n len) r c
-  pub fresh_run_lem : (c : Cells) → run_of s c r ≡ fresh (job_of t).streams
+  pub fresh_run : (c : Cells) → run_of s c r ≡ fresh (job_of t).streams
