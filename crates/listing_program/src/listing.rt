@@ -4,58 +4,58 @@ ghost use Rattle.heads.specs.View.{cols};
 ghost use Rattle.inputs.specs.Parted.{texts_of};
 ghost use Rattle.walk.specs.Run.{Bases, Fine};
 
+use crate::failure::fail;
+use crate::say;
 use inputs::{Read, Verdict};
-use libc::{STDERR_FILENO, STDOUT_FILENO};
 use lines::Laid;
 use rules::Answer;
 use runs::Run;
+use std::io::Print;
 
 // Writes out the lines that stand in the buffer; where these are not all, or can't be written, it is said. Whether all is well.
-fn write_lines(out: &[u8], lines: Laid) -> bool {
+fn write_lines(stdout: &impl Print, stderr: &impl Print, out: &[u8], lines: Laid) -> bool {
     match lines {
         Laid::Whole(p) => {
             if out.len() < p {
-                io::write_all(
-                    STDERR_FILENO,
-                    b"./cedarlash list: a base's lines don't fit\n",
-                );
+                say(stderr, b"./cedarlash list: a base's lines don't fit\n");
                 return false;
             }
-            let good = io::write_all(STDOUT_FILENO, &out[..p]);
-            if !good {
-                os::fail(b"standard output");
+            match stdout.write_all(&out[..p]) {
+                Ok(()) => true,
+                Err(e) => {
+                    fail(stderr, b"standard output", e);
+                    false
+                }
             }
-            good
         }
-        Laid::Part(p) => {
-            io::write_all(
-                STDERR_FILENO,
-                b"./cedarlash list: a base's lines don't fit\n",
-            );
+        Laid::Part(_) => {
+            say(stderr, b"./cedarlash list: a base's lines don't fit\n");
             false
         }
     }
 }
 
 // The line of what is wrong before the run.
-fn list_fault(number: u64, text: u64, ahead: u64) {
+fn list_fault(stdout: &impl Print, stderr: &impl Print, number: u64, text: u64, ahead: u64) {
     let mut out = [0u8; 128];
     let put = lines::put_fault(&mut out, 0, number, text, ahead);
     let laid = lines::only(put, 0);
-    write_lines(&out, laid);
+    let _good = write_lines(stdout, stderr, &out, laid);
 }
 
 // Whether the run has ended.
 fn has_ended(answer: Answer) -> bool {
     match answer {
-        Answer::Found(n, o) => false,
-        Answer::Refused(x) => false,
-        Answer::Ended(e) => true,
+        Answer::Found(_, _) => false,
+        Answer::Refused(_) => false,
+        Answer::Ended(_) => true,
     }
 }
 
 // The lines of n bases, until the run ends.
 fn list_bases(
+    stdout: &impl Print,
+    stderr: &impl Print,
     run: Run,
     n: usize,
     list: &[u8],
@@ -99,7 +99,7 @@ fn list_bases(
         i += 1;
         let answer = x.answer;
         let lines = x.lines;
-        if !write_lines(&out, lines) {
+        if !write_lines(stdout, stderr, &out, lines) {
             return;
         }
         if has_ended(answer) {
@@ -110,6 +110,8 @@ fn list_bases(
 
 // The listing of texts that were read, with nothing wrong.
 fn list_read(
+    stdout: &impl Print,
+    stderr: &impl Print,
     read: Read,
     bytes: &[u8],
     ends: &[usize],
@@ -130,6 +132,8 @@ fn list_read(
     let n = read.names;
     let run = walk::begin(read, list, from, to, chrom, start, stop);
     list_bases(
+        stdout,
+        stderr,
         run,
         read.bases,
         list,
@@ -146,7 +150,7 @@ fn list_read(
 }
 
 // The listing of texts, which stand one behind the other and end where it is told.
-pub fn list_texts(bytes: &[u8], ends: &[usize]) {
+pub fn list_texts(stdout: &impl Print, stderr: &impl Print, bytes: &[u8], ends: &[usize]) {
     let mut from = [0usize; 1024];
     let mut to = [0usize; 1024];
     let mut len = [0u64; 1024];
@@ -172,8 +176,9 @@ pub fn list_texts(bytes: &[u8], ends: &[usize]) {
     let verdict = read.verdict;
     match verdict {
         Verdict::Fine => list_read(
-            read, bytes, ends, &from, &to, &len, &bchrom, &bstart, &bstop, &chrom, &start, &stop,
+            stdout, stderr, read, bytes, ends, &from, &to, &len, &bchrom, &bstart, &bstop, &chrom,
+            &start, &stop,
         ),
-        Verdict::Fault(number, text, ahead) => list_fault(number, text, ahead),
+        Verdict::Fault(number, text, ahead) => list_fault(stdout, stderr, number, text, ahead),
     }
 }
