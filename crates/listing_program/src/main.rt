@@ -1,5 +1,5 @@
 // Writes the listing of files to standard output: `./cedarlash list LIST BASES STREAM...`.
-// What can't be read or written is said on standard error, and nothing else is; a program has no exit status of its own to say it with.
+// What can't be read or written is said on standard error, and nothing else is; the program itself ends with status 0 all the same.
 #![tactic(auto)]
 
 mod failure;

@@ -7,7 +7,10 @@
 mod job;
 mod order;
 
-use libc::STDOUT_FILENO;
+ghost use Rattle.std.specs.Prelude.{◌≤◌, length, IfOk};
+
+use std::io::{Print, Read};
+use std::{fs, io};
 use tests_shared::{line_end, more};
 
 // How the replay stands: jobs, bases, records, jobs that differ, and the line of the first that does.
@@ -75,28 +78,36 @@ fn replay_all(text: &[u8]) -> Tally {
 }
 
 // A word, a number and a line's end.
-fn say(word: &[u8], n: u64) {
-    io::write_all(STDOUT_FILENO, word);
-    io::print_decimal(STDOUT_FILENO, n);
-    io::write_all(STDOUT_FILENO, b"\n");
+fn say(rt: &impl Print, word: &str, n: u64) -> io::Result<()> {
+    println!(rt; "{word}{n}")
 }
 
-fn main() {
-    let path = b"sweep.txt";
-    let fd = os::open_read(path);
-    if fd < 0 {
-        os::fail(path);
-        return;
+// Fills a buffer from a reader, up to the end of either, and tells how many bytes were read.
+fn read_full(reader: &mut impl Read, buffer: &mut [u8]) -> io::Result<usize>
+    ensures { IfOk result (λ n. n ≤ length buffer.old) }
+{
+    let mut n: usize = 0;
+    while n < buffer.len() {
+        let k = reader.read(&mut buffer[n..])?;
+        if k == 0 {
+            break;
+        }
+        n += k;
     }
-    let mut buffer = io::large_buffer();
-    let n = io::read_full(fd, &mut buffer);
-    libc::close(fd);
+    Ok(n)
+}
+
+fn main(rt: HostRuntime) -> io::Result<()> {
+    let mut file = fs::open(&rt, "sweep.txt")?;
+    let mut buffer = [0u8; 65536];
+    let n = read_full(&mut file, &mut buffer)?;
     let t = replay_all(&buffer[..n]);
-    say(b"jobs ", t.jobs);
-    say(b"bases ", t.bases);
-    say(b"records ", t.records);
-    say(b"differences ", t.differ);
+    say(&rt, "jobs ", t.jobs)?;
+    say(&rt, "bases ", t.bases)?;
+    say(&rt, "records ", t.records)?;
+    say(&rt, "differences ", t.differ)?;
     if 0 < t.differ {
-        say(b"first at line ", t.first);
+        say(&rt, "first at line ", t.first)?;
     }
+    Ok(())
 }

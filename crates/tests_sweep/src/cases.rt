@@ -4,6 +4,8 @@ ghost use Rattle.std.specs.Prelude.{◌≤◌};
 use crate::{Line, QUEUES, SLOTS, given, tamper};
 use rules::{Base, Chrom, Settings};
 use runs::{Mark, Run};
+use std::io;
+use std::io::Print;
 
 // Where the memory of the second run begins in the queue's slots.
 const SECOND: usize = 65537;
@@ -357,12 +359,13 @@ impl Bench {
     // A run begins or is given a base, where a line says so.
     pub fn act(
         self,
+        rt: &impl Print,
         l: Line,
         chrom: &[u64; SLOTS],
         start: &[u64; SLOTS],
         stop: &[u64; SLOTS],
         queue: &mut [[u64; 4]; QUEUES],
-    ) -> Bench {
+    ) -> io::Result<Bench> {
         let plan = self.plan;
         let side = self.here;
         let lens = side.lens;
@@ -374,11 +377,13 @@ impl Bench {
                 start: l.b,
                 stop: l.c,
             };
-            return self.with_run(given::give(run, lens, b, self.memory, chrom, start, stop, queue));
+            let after = given::give(rt, run, lens, b, self.memory, chrom, start, stop, queue)?;
+            return Ok(self.with_run(after));
         }
         if is_start(letter) {
-            return self.with_run(given::begin(plan, l.a as usize, lens, chrom, start, stop));
+            let begun = given::begin(rt, plan, l.a as usize, lens, chrom, start, stop)?;
+            return Ok(self.with_run(begun));
         }
-        self
+        Ok(self)
     }
 }

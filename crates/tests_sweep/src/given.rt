@@ -3,6 +3,8 @@ use crate::cases::Plan;
 use crate::{SLOTS, put, say};
 use rules::{Answer, Base, End, Offer, Settings, Unbegun};
 use runs::{Begins, Given, Run};
+use std::io;
+use std::io::Print;
 use tests_shared::{
     answer_rows, front, more, name_ends, name_starts, name_text, places, row_at, slots, stream_at,
 };
@@ -18,32 +20,34 @@ struct Kept {
 }
 
 // A stream and a row of it.
-fn show_pair(stream: u64, row: u64) {
-    put(b" ");
-    say(stream);
-    put(b"/");
-    say(row);
+fn show_pair(rt: &impl Print, stream: u64, row: u64) -> io::Result<()> {
+    put(rt, b" ")?;
+    say(rt, stream)?;
+    put(rt, b"/")?;
+    say(rt, row)
 }
 
 // The first answer rows of n, sixteen at most.
-fn show_first(n: usize, answers: &[[u64; 2]]) {
+fn show_first(rt: &impl Print, n: usize, answers: &[[u64; 2]]) -> io::Result<()> {
     let mut i: usize = 0;
     while i < n {
         if i == 16 {
-            return;
+            return Ok(());
         }
-        show_pair(stream_at(answers, i), row_at(answers, i));
+        show_pair(rt, stream_at(answers, i), row_at(answers, i))?;
         i += 1;
     }
+    Ok(())
 }
 
 // The n answer rows, of more than sixteen those and the last.
-fn show_rows(n: usize, answers: &[[u64; 2]]) {
-    show_first(n, answers);
+fn show_rows(rt: &impl Print, n: usize, answers: &[[u64; 2]]) -> io::Result<()> {
+    show_first(rt, n, answers)?;
     if 16 < n {
-        put(b" ..");
-        show_pair(stream_at(answers, n - 1), row_at(answers, n - 1));
+        put(rt, b" ..")?;
+        show_pair(rt, stream_at(answers, n - 1), row_at(answers, n - 1))?;
     }
+    Ok(())
 }
 
 // One more where a number is as it was.
@@ -68,71 +72,76 @@ fn marks(answers: &[[u64; 2]], from: usize, to: usize) -> Kept {
 }
 
 // The place offered.
-fn show_offer(o: Offer) {
+fn show_offer(rt: &impl Print, o: Offer) -> io::Result<()> {
     match o {
-        Offer::Nothing => put(b", no place"),
+        Offer::Nothing => put(rt, b", no place"),
         Offer::Upto(p) => {
             let c = p.chrom;
-            put(b", place ");
-            say(c.0);
-            put(b" ");
-            say(p.stop);
+            put(rt, b", place ")?;
+            say(rt, c.0)?;
+            put(rt, b" ")?;
+            say(rt, p.stop)
         }
     }
 }
 
 // What ended the run: its number, for 7 and 8 stream and row.
-fn show_end(e: End) {
+fn show_end(rt: &impl Print, e: End) -> io::Result<()> {
     match e {
         End::Faulty(s, row) => {
-            put(b"7 at");
-            show_pair(s.0, row);
+            put(rt, b"7 at")?;
+            show_pair(rt, s.0, row)
         }
         End::Unsorted(s, row) => {
-            put(b"8 at");
-            show_pair(s.0, row);
+            put(rt, b"8 at")?;
+            show_pair(rt, s.0, row)
         }
-        End::NoRoom => put(b"9"),
-        End::NoRows => put(b"10"),
+        End::NoRoom => put(rt, b"9"),
+        End::NoRows => put(rt, b"10"),
     }
 }
 
 // What is as it was in the answer rows behind the first n, of those that were lent.
-fn show_kept(n: usize, lens: [usize; 8], answers: &[[u64; 2]]) {
+fn show_kept(rt: &impl Print, n: usize, lens: [usize; 8], answers: &[[u64; 2]]) -> io::Result<()> {
     let m = marks(answers, n, lens[5]);
-    put(b", kept ");
-    say(m.streams);
-    put(b"/");
-    say(m.rows);
+    put(rt, b", kept ")?;
+    say(rt, m.streams)?;
+    put(rt, b"/")?;
+    say(rt, m.rows)
 }
 
 // What a base got: how many answer rows, the rest by its number.
-fn show_answer(a: Answer, answers: &[[u64; 2]]) -> usize {
+fn show_answer(rt: &impl Print, a: Answer, answers: &[[u64; 2]]) -> io::Result<usize> {
     match a {
         Answer::Found(n, o) => {
-            put(b": found ");
-            say(n as u64);
-            show_rows(n, answers);
-            show_offer(o);
-            n
+            put(rt, b": found ")?;
+            say(rt, n as u64)?;
+            show_rows(rt, n, answers)?;
+            show_offer(rt, o)?;
+            Ok(n)
         }
         Answer::Refused(x) => {
-            put(b": refused ");
-            say(measures::refusal_number(x));
-            0
+            put(rt, b": refused ")?;
+            say(rt, measures::refusal_number(x))?;
+            Ok(0)
         }
         Answer::Ended(e) => {
-            put(b": ended ");
-            show_end(e);
-            0
+            put(rt, b": ended ")?;
+            show_end(rt, e)?;
+            Ok(0)
         }
     }
 }
 
 // What a base got, and what it left of the answer rows.
-fn show(a: Answer, lens: [usize; 8], answers: &[[u64; 2]; SLOTS]) {
-    let n = show_answer(a, answers);
-    show_kept(n, lens, answers);
+fn show(
+    rt: &impl Print,
+    a: Answer,
+    lens: [usize; 8],
+    answers: &[[u64; 2]; SLOTS],
+) -> io::Result<()> {
+    let n = show_answer(rt, a, answers)?;
+    show_kept(rt, n, lens, answers)
 }
 
 // A base is given to a run, with the queue's slots from a place on.
@@ -162,6 +171,7 @@ fn give_part(
 
 // A base is given to a run, with so many answer rows, and what it got is written.
 fn give_marked(
+    rt: &impl Print,
     run: Run,
     lens: [usize; 8],
     b: Base,
@@ -171,7 +181,7 @@ fn give_marked(
     stop: &[u64],
     lengths: &[u64],
     queue: &mut [[u64; 4]],
-) -> Run {
+) -> io::Result<Run> {
     let mut answers = [[MARK; 2]; SLOTS];
     let g = give_part(
         run,
@@ -186,12 +196,13 @@ fn give_marked(
         answer_rows(&mut answers, lens[5]),
     );
     let answer = g.answer;
-    show(answer, lens, &answers);
-    g.run
+    show(rt, answer, lens, &answers)?;
+    Ok(g.run)
 }
 
 // A base is given to a run, with as much of each slice as is lent.
 pub fn give(
+    rt: &impl Print,
     run: Run,
     lens: [usize; 8],
     b: Base,
@@ -200,10 +211,11 @@ pub fn give(
     start: &[u64],
     stop: &[u64],
     queue: &mut [[u64; 4]],
-) -> Run {
+) -> io::Result<Run> {
     let mut lengths = [18446744073709551615u64; 257];
     lengths[0] = 1000;
     give_marked(
+        rt,
         run,
         lens,
         b,
@@ -217,12 +229,12 @@ pub fn give(
 }
 
 // Whether a run begins.
-fn show_start(b: Begins) {
+fn show_start(rt: &impl Print, b: Begins) -> io::Result<()> {
     match b {
-        Begins::Begun => put(b": begun"),
+        Begins::Begun => put(rt, b": begun"),
         Begins::Refused(x) => match x {
-            Unbegun::Sizes => put(b": refused 1"),
-            Unbegun::Names => put(b": refused 2"),
+            Unbegun::Sizes => put(rt, b": refused 1"),
+            Unbegun::Names => put(rt, b": refused 2"),
         },
     }
 }
@@ -238,13 +250,14 @@ fn with_odd(names: [usize; 257], k: usize, place: usize) -> [usize; 257] {
 
 // A run begins.
 pub fn begin(
+    rt: &impl Print,
     p: Plan,
     room: usize,
     lens: [usize; 8],
     chrom: &[u64],
     start: &[u64],
     stop: &[u64],
-) -> Run {
+) -> io::Result<Run> {
     let from = with_odd(name_starts(), p.odd, p.odd_from);
     let to = with_odd(name_ends(), p.odd, p.odd_to);
     let text = name_text();
@@ -267,6 +280,6 @@ pub fn begin(
         front(stop, lens[2]),
     );
     let begins = s.begins;
-    show_start(begins);
-    s.run
+    show_start(rt, begins)?;
+    Ok(s.run)
 }

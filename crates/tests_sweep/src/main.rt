@@ -22,14 +22,15 @@
 //   z KIND A B C          the run's mark is overwritten: 7 to 10, ended by that, for 7 and 8 at stream A and row B
 #![tactic(auto)]
 
-ghost use Rattle.std.specs.Prelude.{◌<◌, length};
+ghost use Rattle.std.specs.Prelude.{◌<◌, ◌≤◌, length, IfOk};
 
 mod cases;
 mod given;
 mod tamper;
 
 use cases::{Bench, put_rows, put_slot};
-use libc::STDOUT_FILENO;
+use std::io;
+use std::io::{Print, Read};
 use tests_shared::{line_end, number};
 
 // How many slots the columns have, and the queue, which holds the memory of two runs.
@@ -48,12 +49,12 @@ pub struct Line {
     pub e: u64,
 }
 
-pub fn put(bytes: &[u8]) {
-    io::write_all(STDOUT_FILENO, bytes);
+pub fn put(rt: &impl Print, bytes: &[u8]) -> io::Result<()> {
+    rt.write_all(bytes)
 }
 
-pub fn say(n: u64) {
-    io::print_decimal(STDOUT_FILENO, n);
+pub fn say(rt: &impl Print, n: u64) -> io::Result<()> {
+    rt.print(n)
 }
 
 // The line that stands at a place.
@@ -76,19 +77,19 @@ fn line_at(text: &[u8], at: usize) -> Line
 }
 
 // A line is written as it stands, up to its end.
-fn show_line(text: &[u8], at: usize)
+fn show_line(rt: &impl Print, text: &[u8], at: usize) -> io::Result<()>
     requires { at < length text.now }
 {
     let end = line_end(text, at);
-    put(&text[at..end - 1]);
+    put(rt, &text[at..end - 1])
 }
 
-fn end_line() {
-    put(b"\n");
+fn end_line(rt: &impl Print) -> io::Result<()> {
+    put(rt, b"\n")
 }
 
 // All cases of a text.
-fn play_all(text: &[u8]) {
+fn play_all(rt: &impl Print, text: &[u8]) -> io::Result<()> {
     let mut chrom = [0u64; SLOTS];
     let mut start = [0u64; SLOTS];
     let mut stop = [0u64; SLOTS];
@@ -97,18 +98,34 @@ fn play_all(text: &[u8]) {
     let mut at: usize = 0;
     while at < text.len() {
         let line = line_at(text, at);
-        show_line(text, at);
+        show_line(rt, text, at)?;
         bench = bench.after(line);
         put_rows(line, bench, &mut chrom, &mut start, &mut stop);
         put_slot(line, bench, &mut queue);
-        bench = bench.act(line, &chrom, &start, &stop, &mut queue);
-        end_line();
+        bench = bench.act(rt, line, &chrom, &start, &stop, &mut queue)?;
+        end_line(rt)?;
         at = line_end(text, at);
     }
+    Ok(())
 }
 
-fn main() {
-    let mut buffer = io::large_buffer();
-    let n = io::read_full(0, &mut buffer);
-    play_all(&buffer[..n]);
+// Fills a buffer from a reader, up to the end of either, and tells how many bytes were read.
+fn read_full(reader: &mut impl Read, buffer: &mut [u8]) -> io::Result<usize>
+    ensures { IfOk result (λ n. n ≤ length buffer.old) }
+{
+    let mut n: usize = 0;
+    while n < buffer.len() {
+        let k = reader.read(&mut buffer[n..])?;
+        if k == 0 {
+            break;
+        }
+        n += k;
+    }
+    Ok(n)
+}
+
+fn main(rt: HostRuntime) -> io::Result<()> {
+    let mut buffer = [0u8; 65536];
+    let n = read_full(&mut rt.stdin(), &mut buffer)?;
+    play_all(&rt, &buffer[..n])
 }

@@ -1,3 +1,4 @@
+-- `listing_program::listing::list_bases` meets its contract: safe, and the loop counts the bases. Assumes nothing.
 use mathlib.Core.Path.{◌≡◌}
 use Prim.Native.Nat.{◌-◌, ◌≤◌}
 use lib.ListN.{length}
