@@ -28,8 +28,9 @@ fn link(name: &str) {
     println!("cargo:rerun-if-changed={}", archive.display());
     if !archive.is_file() {
         stop(&format!(
-            "{} is not there. Run 'rt lib' in crates/{name}, which proves the library and writes it to crates/{name}/out, \
-             and copy it, or let CEDARLASH_LIB name the folder that has it. ('--no-default-features' builds without it.)",
+            "{} is not there. Run 'rt lib' in crates/{name}_c, which proves the library and writes it to \
+             crates/{name}_c/out/lib{name}_c.a, and copy that file there, or let CEDARLASH_LIB name the folder that has it. \
+             ('--no-default-features' builds without it.)",
             archive.display()
         ));
     }

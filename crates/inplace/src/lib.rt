@@ -9,7 +9,7 @@ ghost use Rattle.heads.specs.View.{cols};
 ghost use Rattle.pulls.specs.Pulls.{lent};
 ghost use Rattle.inplace.specs.Calls.{eight_of, streams_in, plan_of, begun_number, BeginsInPlace, GivesInPlace};
 
-pub use readers::Tally;
+pub use readers::{Tally, cedarlash_check_list, cedarlash_read_list, cedarlash_read_rows};
 pub use rules::Settings;
 use rules::Unbegun;
 use runs::Begins;

@@ -2,7 +2,7 @@
 // room of one, and writes what waits after each step.
 #![tactic(auto)]
 
-ghost use Rattle.std.specs.Prelude.{◌≡◌, ◌≤◌, ◌<◌, length, IfOk};
+ghost use Rattle.std.specs.Prelude.{◌≡◌, ◌≤◌, ◌<◌, length, IfOk, OnErr};
 ghost use Rattle.queue.specs.Ring.{Fair};
 ghost use Rattle.tests_queue.specs.Ready.{Ready};
 
@@ -113,7 +113,8 @@ fn show_room(rt: &impl Print, room: usize) -> io::Result<()> {
 // One record is pushed.
 fn push_step(rt: &impl Print, ring: Ring, queue: &mut [[u64; 4]], slot: Slot) -> io::Result<Ring>
     requires { Fair ring queue.old }
-    ensures { IfOk result (λ r. Fair r queue.new × (r.room ≡ ring.room)) }
+    ensures ok { IfOk result (λ r. Fair r queue.new × (r.room ≡ ring.room)) }
+    ensures err { OnErr result (length queue.new ≡ length queue.old) }
 {
     show_push(rt, slot)?;
     let pushed = ring.push(queue, slot);
@@ -139,7 +140,8 @@ fn base_step(
     b: Base,
 ) -> io::Result<Ring>
     requires { Ready ring queue.old answers.old }
-    ensures { IfOk result (λ r. Fair r queue.new × (r.room ≡ ring.room)) }
+    ensures ok { IfOk result (λ r. Fair r queue.new × (r.room ≡ ring.room)) }
+    ensures err { OnErr result (length queue.new ≡ length queue.old) }
 {
     show_base(rt, b)?;
     let after = ring.clear(queue, b);
@@ -159,7 +161,8 @@ fn play(
     step: [u64; 5],
 ) -> io::Result<Ring>
     requires { Ready ring queue.old answers.old }
-    ensures { IfOk result (λ r. Fair r queue.new × (r.room ≡ ring.room)) }
+    ensures ok { IfOk result (λ r. Fair r queue.new × (r.room ≡ ring.room)) }
+    ensures err { OnErr result (length queue.new ≡ length queue.old) }
 {
     if step[0] == 0 {
         let slot = Slot {

@@ -4,6 +4,6 @@ use Rattle.tests_queue.proofs.push_step.Goals as goal
 pub show-requires : goal.show-requires
 show-requires g c = (c.push-pushed.ensures.done _ c.in-Done.is).fair
 
-pub returns-in_ok-show-in-Done : goal.returns-in_ok-show-in-Done
-returns-in_ok-show-in-Done g c =
+pub returns-in_ok-show-in-Done-clause-ok : goal.returns-in_ok-show-in-Done-clause-ok
+returns-in_ok-show-in-Done-clause-ok g c =
     ((c.push-pushed.ensures.done _ c.in-Done.is).fair, (c.push-pushed.ensures.done _ c.in-Done.is).room)
