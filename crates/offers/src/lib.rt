@@ -15,6 +15,7 @@ use queue::{Front, Ring};
 use rules::{Answer, Base, Chrom, Offer, Place};
 
 // The place for a record that starts at `start` on a chromosome, the first that the base awaits.
+#[tactic(auto, using(crate::proofs::PlaceLaws::place_close))]
 fn place_for(b: Base, chrom: Chrom, start: u64) -> Offer
     ensures { result ≡ place_for b (some (start_at chrom start)) }
 {

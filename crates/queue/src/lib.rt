@@ -76,6 +76,7 @@ impl Ring {
     }
 
     // One more at the end, where there is room.
+    #[tactic(auto, using(crate::proofs::Pushing::push_full))]
     pub fn push(self, queue: &mut [[u64; 4]], slot: Slot) -> Pushed
         requires { Fair self queue.old }
         ensures { Pushes self queue.old slot result

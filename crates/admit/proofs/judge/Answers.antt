@@ -21,7 +21,7 @@ pub returns-then-length-b : goal.returns-then-length-b
 returns-then-length-b c =
     let a = c.args in
     let listed : a.b.chrom.0 < length a.lengths.now = omega (arith, c.number.ensures, c.if-number-c.false) in
-    judge_beyond a.lengths.now (last_of a.stage) a.b listed c.if-b.false (omega arith) _ c.place_in-at.ensures c.if-length-b.true
+    judge_beyond a.lengths.now (last_of a.stage) a.b listed (omega arith) (omega arith) _ c.place_in-at.ensures c.if-length-b.true
 
 pub returns-then-not-follows : goal.returns-then-not-follows
 returns-then-not-follows c =

@@ -13,4 +13,4 @@ looked_up-requires-then-p-a c =
 
 pub returns : goal.returns
 returns c =
-    seen_same c.requires.2 c.args.at c.agree-k.result (omega arith) (omega arith) c.agree-k.ensures.1 c.field_end-a.ensures c.if-k-size.false c.if-p-a.false
+    seen_same c.requires.2 c.args.at c.agree-k.result (omega arith) (omega arith) c.agree-k.ensures.1 c.field_end-a.ensures (omega arith) c.if-p-a.false
