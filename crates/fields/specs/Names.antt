@@ -1,5 +1,6 @@
 -- Names as two columns, where each begins and where it ends in a text, and the number of a name in list order.
-use Rattle.std.specs.Prelude.{ℕ, suc, ◌-◌, List, [], ◌∷◌, Bool, true, false, cond, ◌&&◌, take, drop, leb, eqb}
+use Rattle.std.specs.Prelude.{ℕ, suc, ◌-◌, List, [], ◌∷◌, Bool, true, false, cond, ◌&&◌, take, drop, leb, eqb, length}
+use Rattle.fields.specs.declared.NameList.{NameList}
 
 -- the bytes of a text from f up to t
 abbrev pub part : ℕ → ℕ → List ℕ → List ℕ
@@ -17,6 +18,13 @@ unfoldable pub names : List ℕ → List ℕ → List ℕ → List (List ℕ)
 names text [] ts = []
 names text (f ∷ fs) [] = []
 names text (f ∷ fs) (t ∷ ts) = part f t text ∷ names text fs ts
+
+-- the names of a list, and that each lies in its text
+abbrev pub listed : NameList → List (List ℕ)
+listed l = names l.text.now l.from.now l.to.now
+
+abbrev pub is_within : NameList → Bool
+is_within l = within (length l.text.now) l.from.now l.to.now
 
 -- two names have the same bytes
 unfoldable pub same : List ℕ → List ℕ → Bool

@@ -6,6 +6,14 @@ ghost use Rattle.std.specs.Prelude.{◌≡◌, ◌+◌, ◌<◌, ◌≤◌, min,
 ghost use Rattle.fields.specs.Scan.{in_field, FieldTo, Past, next_line, number_at, Counting, Counted};
 ghost use Rattle.fields.specs.Names.{part, within, names, same, number_in};
 
+// A list of names: a text, and where each name starts and ends there; of any places.
+#[derive(Clone, Copy)]
+pub struct NameList<'a> {
+    pub text: &'a [u8],
+    pub from: &'a [usize],
+    pub to: &'a [usize],
+}
+
 // How a reading ended, with the rows ahead of the end; refused: nothing was read.
 #[derive(Clone, Copy)]
 pub enum Reading {

@@ -3,6 +3,7 @@ use Rattle.std.specs.Prelude.{List, [], ◌∷◌, map, ℕ, ◌-◌, get_or}
 use Rattle.basics.specs.Build.{build}
 use Rattle.rules.specs.Rows.{Record}
 use Rattle.least.specs.Fours.{record_of, is_ended, unless_ended}
+use Rattle.heads.specs.declared.Columns.{Columns}
 
 -- the lent columns: all streams' rows, one after the other
 pub record Cols : Type 0 where
@@ -12,6 +13,9 @@ pub record Cols : Type 0 where
 
 abbrev pub cols : List ℕ → List ℕ → List ℕ → Cols
 cols c a e = record { chrom = c; start = a; stop = e }
+
+abbrev pub cols_of : Columns → Cols
+cols_of s = cols s.chrom.now s.start.now s.stop.now
 
 -- the record at place p of the columns, in stream k, whose rows begin at `from`
 abbrev pub row_at : Cols → ℕ → ℕ → ℕ → Record

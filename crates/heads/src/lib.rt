@@ -13,6 +13,14 @@ ghost use Rattle.heads.specs.Move.{best_record, next_row, next_record, check_of,
 use least::Best;
 use rules::{Base, Chrom, End, Settings, Stream};
 
+// Columns of numbers, lent: all streams' rows, one after the other; or bases.
+#[derive(Clone, Copy)]
+pub struct Columns<'a> {
+    pub chrom: &'a [u64],
+    pub start: &'a [u64],
+    pub stop: &'a [u64],
+}
+
 // A head that is taken: its stream, whether it is live for the base, its row, start and stop.
 #[derive(Clone, Copy)]
 pub struct Taken {
