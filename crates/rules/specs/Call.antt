@@ -4,8 +4,8 @@ use Rattle.std.proofs.Math.Option.{Option, none, some}
 use Rattle.basics.specs.Lists.{filter}
 use Rattle.rules.specs.declared.Row.{Row}
 use Rattle.rules.specs.declared.Base.{Base}
-use Rattle.rules.specs.declared.Offer.{Offer}
-use Rattle.rules.specs.declared.Offer.TheVariants.{Nothing}
+use Rattle.rules.specs.Offered.{Offer}
+use Rattle.std.specs.Prelude.{None}
 use Rattle.rules.specs.declared.Refusal.{Refusal}
 use Rattle.rules.specs.declared.Refusal.TheVariants.{Sizes}
 use Rattle.rules.specs.declared.End.{End}
@@ -43,8 +43,8 @@ answer_of (ended e) = answer.Ended e
 -- "Refusals 1 to 10 leave the answer rows untouched and offer nothing."
 abbrev pub offered : Reply → Offer
 offered (found l o) = o
-offered (refused x) = Nothing
-offered (ended e) = Nothing
+offered (refused x) = None
+offered (ended e) = None
 
 abbrev pub rows_of : Reply → List Record
 rows_of (found l o) = l

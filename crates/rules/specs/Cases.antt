@@ -4,8 +4,8 @@ use Rattle.std.specs.Prelude.{◌≡◌, refl, Bool, true, false, not, ◌&&◌,
 use Rattle.std.proofs.Math.Option.{none, some}
 use Rattle.rules.specs.declared.Row.{Row}
 use Rattle.rules.specs.declared.Base.{Base}
-use Rattle.rules.specs.declared.Offer.{Offer}
-use Rattle.rules.specs.declared.Offer.TheVariants.{Nothing, Upto}
+use Rattle.rules.specs.Offered.{Offer}
+use Rattle.std.specs.Prelude.{None, Some}
 use Rattle.rules.specs.Numbers.{number_of, end_number, end_values}
 use Rattle.rules.specs.Rows.{Record}
 use Rattle.rules.specs.Merge.{pick, draw, merge}
@@ -74,18 +74,18 @@ at s r = record { stream = s; row = r }
 
 -- records, with no offer; with an offer
 abbrev just : List Seat → Want
-just l = rows l Nothing
+just l = rows l None
 
 abbrev upto : ℕ → ℕ → Offer
-upto c s = Upto (record { chrom = record { 0 = c }; stop = s })
+upto c s = Some (record { chrom = record { 0 = c }; stop = s })
 
 -- ---- what it is for a reply to be the one that is wanted
 
 abbrev same_offer : Offer → Offer → Bool
-same_offer Nothing Nothing = true
-same_offer Nothing (Upto h) = false
-same_offer (Upto g) Nothing = false
-same_offer (Upto g) (Upto h) = eqb g.chrom.0 h.chrom.0 && eqb g.stop h.stop
+same_offer None None = true
+same_offer None (Some h) = false
+same_offer (Some g) None = false
+same_offer (Some g) (Some h) = eqb g.chrom.0 h.chrom.0 && eqb g.stop h.stop
 
 abbrev same_rows : List Seat → List Record → Bool
 same_rows [] [] = true
@@ -122,7 +122,7 @@ all_meant (w ∷ ws) (r ∷ rs) = meant w r && all_meant ws rs
 abbrev right : Case → Bool
 right c =
     let gets : List Reply = answers c.job (given c.bases) in
-    all_meant c.wants gets && (all_meant c.wants (promised c.job (given c.bases)) && same_bool c.lawful (lawful Nothing c.bases (map offered gets)))
+    all_meant c.wants gets && (all_meant c.wants (promised c.job (given c.bases)) && same_bool c.lawful (lawful None c.bases (map offered gets)))
 
 abbrev all_right : List Case → Bool
 all_right [] = true

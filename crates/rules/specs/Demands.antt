@@ -3,7 +3,7 @@ use Rattle.std.specs.Prelude.{◌≡◌, Bool, true, false, cond, ◌⊎◌, Lis
 use Rattle.std.proofs.Math.Option.{Option, none}
 use Rattle.basics.specs.Lists.{is_some, filter, first_one, All, Pairs}
 use Rattle.rules.specs.declared.Base.{Base}
-use Rattle.rules.specs.declared.Offer.TheVariants.{Nothing}
+use Rattle.std.specs.Prelude.{None}
 use Rattle.rules.specs.declared.Refusal.TheVariants.{Sizes}
 use Rattle.rules.specs.declared.End.TheVariants.{NoRoom}
 use Rattle.rules.specs.Numbers.{number_of}
@@ -108,5 +108,5 @@ pub record Demand3 (sweep : Sweep) : Type 0 where
   -- "Take valid streams and bases whose rows are all valid and in order. A base source may leave out any bases that the last offered
   -- place permits. Every base given is then answered or refused as in the full run, and every base left out has no record there."
   pub skips : (j : Job) → ValidStreams j → (l : List (Mark Base)) → ((at : Spot (every l)) → Accepted j at)
-      → lawful Nothing l (map offered (sweep j (given l))) ≡ true
+      → lawful None l (map offered (sweep j (given l))) ≡ true
       → (sweep j (given l) ≡ heard l (sweep j (every l))) × All (λ c. filter (overlaps c) (merged_of j) ≡ []) (missed l)

@@ -6,6 +6,7 @@ pub mod Streams
 pub mod Overlap
 pub mod Pull
 pub mod Bases
+pub mod Offered
 pub mod Offer
 pub mod Start
 pub mod Call

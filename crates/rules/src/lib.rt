@@ -2,14 +2,14 @@
 #![tactic(auto)]
 
 // A stream's number, and a chromosome's number in list order: neither can stand where the other is due.
-#[derive(Clone, Copy)]
+#[derive(Clone, Copy, PartialEq, Eq)]
 pub struct Stream(pub u64);
 
-#[derive(Clone, Copy)]
+#[derive(Clone, Copy, PartialEq, Eq, PartialOrd, Ord)]
 pub struct Chrom(pub u64);
 
 // A row of a stream, half-open: start is the first position, stop the first behind it.
-#[derive(Clone, Copy)]
+#[derive(Clone, Copy, PartialEq, Eq)]
 pub struct Row {
     pub chrom: Chrom,
     pub start: u64,
@@ -17,7 +17,7 @@ pub struct Row {
 }
 
 // A target region, half-open.
-#[derive(Clone, Copy)]
+#[derive(Clone, Copy, PartialEq, Eq, PartialOrd, Ord)]
 pub struct Base {
     pub chrom: Chrom,
     pub start: u64,
@@ -25,7 +25,7 @@ pub struct Base {
 }
 
 // A place up to which bases may be left out.
-#[derive(Clone, Copy)]
+#[derive(Clone, Copy, PartialEq, Eq)]
 pub struct Place {
     pub chrom: Chrom,
     pub stop: u64,
@@ -51,15 +51,11 @@ impl Settings {
     pub const ROOM: usize = 65536;
 }
 
-// What is offered after a base.
-#[derive(Clone, Copy)]
-pub enum Offer {
-    Nothing,
-    Upto(Place),
-}
+// What is offered after a base: a place up to which bases may be left out, or nothing.
+pub type Offer = Option<Place>;
 
 // Why no run begins.
-#[derive(Clone, Copy)]
+#[derive(Clone, Copy, PartialEq, Eq)]
 pub enum Unbegun {
     // 1: a size is broken.
     Sizes,
@@ -68,7 +64,7 @@ pub enum Unbegun {
 }
 
 // Why a base is refused with the run unchanged.
-#[derive(Clone, Copy)]
+#[derive(Clone, Copy, PartialEq, Eq)]
 pub enum Refusal {
     // 1: a size is broken, lent columns differ in length, or the run or its queue names no lent stream or row.
     Sizes,
@@ -83,7 +79,7 @@ pub enum Refusal {
 }
 
 // Why a run has ended.
-#[derive(Clone, Copy)]
+#[derive(Clone, Copy, PartialEq, Eq)]
 pub enum End {
     // 7: stream record: chromosome not on the list, or start > stop; its stream and row.
     Faulty(Stream, u64),
@@ -96,7 +92,7 @@ pub enum End {
 }
 
 // How a run stands: no base accepted yet, the last accepted base, or its end.
-#[derive(Clone, Copy)]
+#[derive(Clone, Copy, PartialEq, Eq)]
 pub enum Stage {
     Fresh,
     After(Base),
@@ -104,7 +100,7 @@ pub enum Stage {
 }
 
 // What a base gets: its records' count and the offer, a refusal, or the end of the run.
-#[derive(Clone, Copy)]
+#[derive(Clone, Copy, PartialEq, Eq)]
 pub enum Answer {
     Found(usize, Offer),
     Refused(Refusal),

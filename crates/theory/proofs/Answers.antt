@@ -18,7 +18,7 @@ use Rattle.rules.specs.declared.End.{End}
 use Rattle.rules.specs.declared.End.TheVariants.{NoRoom}
 use Rattle.rules.specs.declared.Stage.{Stage}
 use Rattle.rules.specs.declared.Stage.TheVariants.{Fresh, After, Over}
-use Rattle.rules.specs.declared.Offer.TheVariants.{Nothing}
+use Rattle.std.specs.Prelude.{None}
 use Rattle.rules.specs.Rows.{Record, numbered, good}
 use Rattle.rules.specs.Merge.{Pick, pick, onto}
 use Rattle.rules.specs.Streams.{ahead, next, Head, taking}
@@ -96,7 +96,7 @@ offer_least n b left queue off fine = go (ltb b.start b.stop) refl
         awaits_beyond b t h (leb-true t.it.start t.it.stop (and_also (ltb t.it.chrom.0 n) _ (all_first (rw w at fine)))) (all_first (rw w at off)) in
         rw w (first_passes (awaited b) queue t _ waits)
 
-    go : (u : Bool) → ltb b.start b.stop ≡ u → cond u (place_for b (target (coming left queue) b)) Nothing ≡ cond u (place_for b (target (queue ++ records (taking n left)) b)) Nothing
+    go : (u : Bool) → ltb b.start b.stop ≡ u → cond u (place_for b (target (coming left queue) b)) None ≡ cond u (place_for b (target (queue ++ records (taking n left)) b)) None
     go false e = refl
     go true e = ap (place_for b) (seek (ltb-true b.start b.stop e) (pick ahead left) refl)
 

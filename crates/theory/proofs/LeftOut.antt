@@ -17,8 +17,8 @@ use Rattle.basics.proofs.ListLaws.{all_map, all_head, all_tail, pairs_map, pairs
 use Rattle.basics.proofs.LexLaws.{lex_true, lex_fail, lex_map, lex_pass}
 use Rattle.rules.specs.declared.Base.{Base}
 use Rattle.rules.specs.declared.Place.{Place}
-use Rattle.rules.specs.declared.Offer.{Offer}
-use Rattle.rules.specs.declared.Offer.TheVariants.{Nothing, Upto}
+use Rattle.rules.specs.Offered.{Offer}
+use Rattle.std.specs.Prelude.{None, Some}
 use Rattle.rules.specs.declared.Refusal.{Refusal}
 use Rattle.rules.specs.declared.Refusal.TheVariants.{Beyond, Unlisted, Unordered, Reversed}
 use Rattle.rules.specs.declared.End.{End}
@@ -49,10 +49,10 @@ short t c u h e =
     lex_fail t.it.chrom.0 c.chrom.0 _
     (lex_map (λ f. le-ltb t.it.start c.stop (omega (arith, leb-true c.stop u f))) (lex_true c.chrom.0 t.it.chrom.0 (leb c.stop u) e))
 
-place_short : (p c : Base) (t : Record) (g : Place) → place_for p (some t) ≡ Upto g → permits g c ≡ true → taken c t ≡ false
+place_short : (p c : Base) (t : Record) (g : Place) → place_for p (some t) ≡ Some g → permits g c ≡ true → taken c t ≡ false
 place_short p c t g e h = case (ltb p.chrom.0 t.it.chrom.0) (far p t) e
   where
-    case : (u v : Bool) → cond u (Upto (record { chrom = t.it.chrom; stop = t.it.start })) (cond v (Upto (record { chrom = t.it.chrom; stop = t.it.start - 1 })) Nothing) ≡ Upto g → taken c t ≡ false
+    case : (u v : Bool) → cond u (Some (record { chrom = t.it.chrom; stop = t.it.start })) (cond v (Some (record { chrom = t.it.chrom; stop = t.it.start - 1 })) None) ≡ Some g → taken c t ≡ false
     case true v q = let z : g ≡ record { chrom = t.it.chrom; stop = t.it.start } = cc in short t c t.it.start (omega arith) (rw z at h)
     case false true q = let z : g ≡ record { chrom = t.it.chrom; stop = t.it.start - 1 } = cc in short t c (t.it.start - 1) (omega arith) (rw z at h)
     case false false q = let z : ◌≡◌ {A = ℕ} 0 1 = cc in absurd (omega arith)
@@ -64,11 +64,11 @@ module _ (n : ℕ) (M : List Record) (goods : All (λ r. good n r.it ≡ true) M
   ready : (p : Base) → p.start < p.stop → All (λ r. taken p r ≡ false → awaited p r ≡ true) M
   ready p h = all_map (λ r g f. awaits_beyond p r h (leb-true r.it.start r.it.stop (and_also (ltb r.it.chrom.0 n) _ g)) f) goods
 
-  offer_idle : (hs : List Base) (p c : Base) (g : Place) → Has p hs → offer M p ≡ Upto g → permits g c ≡ true → Idle overlap M hs c
+  offer_idle : (hs : List Base) (p c : Base) (g : Place) → Has p hs → offer M p ≡ Some g → permits g c ≡ true → Idle overlap M hs c
   unfolding offer
   offer_idle hs p c g i e h = case (ltb p.start p.stop) (target M p) refl refl e
     where
-      case : (u : Bool) (o : Option Record) → ltb p.start p.stop ≡ u → target M p ≡ o → cond u (place_for p o) Nothing ≡ Upto g → Idle overlap M hs c
+      case : (u : Bool) (o : Option Record) → ltb p.start p.stop ≡ u → target M p ≡ o → cond u (place_for p o) None ≡ Some g → Idle overlap M hs c
       case true (some t) d f q =
           record { from = p; was = i; target = t; offered = f; short = place_short p c t g q h; beyond = ready p (ltb-true p.start p.stop d) }
       case true none d f q = let z : ◌≡◌ {A = ℕ} 0 1 = cc in absurd (omega arith)
@@ -78,28 +78,28 @@ module _ (n : ℕ) (M : List Record) (goods : All (λ r. good n r.it ≡ true) M
   record Offered (hs : List Base) (g : Place) : Type 0 where
     after : Base
     was : Has after hs
-    made : offer M after ≡ Upto g
+    made : offer M after ≡ Some g
 
   abbrev InForce : List Base → Offer → Type 0
-  InForce hs Nothing = Unit {0}
-  InForce hs (Upto g) = Offered hs g
+  InForce hs None = Unit {0}
+  InForce hs (Some g) = Offered hs g
 
   -- what a reply offers is nothing, or the base's offer
   abbrev pub Made : Base → Reply → Type 0
-  Made b r = (offered r ≡ Nothing) ⊎ (offered r ≡ offer M b)
+  Made b r = (offered r ≡ None) ⊎ (offered r ≡ offer M b)
 
   kept : (hs : List Base) (b : Base) (g : Offer) → InForce hs g → InForce (b ∷ hs) g
-  kept hs b Nothing h = tt
-  kept hs b (Upto g) h = record { after = h.after; was = there h.was; made = h.made }
+  kept hs b None h = tt
+  kept hs b (Some g) h = record { after = h.after; was = there h.was; made = h.made }
 
-  hold_next : (hs : List Base) (b : Base) (g : Offer) → InForce hs g → (o : Offer) → (o ≡ Nothing) ⊎ (o ≡ offer M b) → InForce (b ∷ hs) (hold g o)
-  hold_next hs b g h Nothing e = kept hs b g h
-  hold_next hs b g h (Upto x) (inl e) = let z : ◌≡◌ {A = ℕ} 0 1 = cc in absurd (omega arith)
-  hold_next hs b g h (Upto x) (inr e) = record { after = b; was = here; made = sym e }
+  hold_next : (hs : List Base) (b : Base) (g : Offer) → InForce hs g → (o : Offer) → (o ≡ None) ⊎ (o ≡ offer M b) → InForce (b ∷ hs) (hold g o)
+  hold_next hs b g h None e = kept hs b g h
+  hold_next hs b g h (Some x) (inl e) = let z : ◌≡◌ {A = ℕ} 0 1 = cc in absurd (omega arith)
+  hold_next hs b g h (Some x) (inr e) = record { after = b; was = here; made = sym e }
 
   allowed_idle : (hs : List Base) (c : Base) (g : Offer) → InForce hs g → allowed g c ≡ true → Idle overlap M hs c
-  allowed_idle hs c Nothing h e = clash e refl
-  allowed_idle hs c (Upto g) h e = offer_idle hs h.after c g h.was h.made e
+  allowed_idle hs c None h e = clash e refl
+  allowed_idle hs c (Some g) h e = offer_idle hs h.after c g h.was h.made e
 
   lawful_skips : (hs : List Base) (g : Offer) → InForce hs g → (l : List (Mark Base)) {rs : List Reply} → Pairs Made (given l) rs → lawful g l (map offered rs) ≡ true → Skips overlap M hs l
   lawful_skips hs g h [] Pairs.nil e = Skips.stop
@@ -107,8 +107,8 @@ module _ (n : ℕ) (M : List Record) (goods : All (λ r. good n r.it ≡ true) M
   lawful_skips hs g h (skip c ∷ l) {rs} ps e =
       left (allowed_idle hs c g h (and_left (allowed g c) (lawful g l (map offered rs)) e)) (lawful_skips hs g h l ps (and_also (allowed g c) (lawful g l (map offered rs)) e))
 
-  pub permitted : (l : List (Mark Base)) {rs : List Reply} → Pairs Made (given l) rs → lawful Nothing l (map offered rs) ≡ true → Skips overlap M [] l
-  permitted l ps e = lawful_skips [] Nothing tt l ps e
+  pub permitted : (l : List (Mark Base)) {rs : List Reply} → Pairs Made (given l) rs → lawful None l (map offered rs) ≡ true → Skips overlap M [] l
+  permitted l ps e = lawful_skips [] None tt l ps e
 
 -- ---- bases that are all accepted
 
@@ -245,7 +245,7 @@ module _ (j : Job) (ok : ValidStreams j) where
       case none h = rw h
       case (some x) h = sym (dressed_ended all x (b ∷ bs))
 
-  module _ (l : List (Mark Base)) (fit : (at : Spot (every l)) → Accepted j at) (legal : lawful Nothing l (map offered (answers j (given l))) ≡ true) where
+  module _ (l : List (Mark Base)) (fit : (at : Spot (every l)) → Accepted j at) (legal : lawful None l (map offered (answers j (given l))) ≡ true) where
     fits : AllAccepted j.lengths [] (every l)
     fits = from_spots j.lengths [] (every l) (λ pre b post q. fit (record { ahead = pre; base = b; later = post; whole = q }))
 
