@@ -105,6 +105,9 @@ module _ (q : List (List ℕ)) (ended : List ℕ) (n : ℕ) where
       go None m e = let z : ◌≡◌ {A = ℕ} 0 1 = cc in absurd (omega arith)
       go (Some b) m e = let z : k ≡ b.stream = cc in rw z (m.inside, ap Some m.is)
 
+  pub least_inside : (h : Best) → Some h ≡ least_in q ended n → h.stream.0 < 8
+  least_inside h e = (least_at h.stream (ap stream_of e)).inside
+
 -- of two heads, the earlier stream's is taken unless the other is sooner
 ahead_sooner : (x y : Record) (l : List ℕ) → x.stream.0 ≤ y.stream.0 → x ≡ record_from x.stream.0 l → ahead x y ≡ not (sooner (head_of y) l)
 unfolding sooner
