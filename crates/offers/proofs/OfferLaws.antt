@@ -10,7 +10,7 @@ use borrow.Author.Tests.{eqb-true, ne_eqb}
 use Rattle.basics.specs.Lists.{keep, first_one, first, All, cons}
 use Rattle.basics.proofs.BoolLaws.{and_left}
 use Rattle.rules.specs.declared.Base.{Base}
-use Rattle.rules.specs.declared.Offer.TheVariants as offers
+use Rattle.std.specs.Prelude.{None}
 use Rattle.rules.specs.Rows.{Record}
 use Rattle.rules.specs.Merge.{Pick, none, one, pick, onto}
 use Rattle.rules.specs.Streams.{ahead}
@@ -50,4 +50,4 @@ module _ (b : Base) (left : List (List Record)) where
   -- what waits is live for the base
   pub offer_by_lem : Below → (queue : List Record) → All (λ r. live b r ≡ true) queue → offer_by b (front_of (first_one queue)) (best_of (pick ahead left)) ≡ offer (coming left queue) b
   unfolding offer_by offer
-  offer_by_lem low queue h = ap (λ (o : _). cond (ltb b.start b.stop) o offers.Nothing) (by_both low queue h)
+  offer_by_lem low queue h = ap (λ (o : _). cond (ltb b.start b.stop) o None) (by_both low queue h)

@@ -16,7 +16,7 @@ use Rattle.queue.specs.declared.Ring.{Ring}
 use Rattle.queue.specs.declared.Slot.{Slot}
 use Rattle.queue.specs.declared.Pushed.{Pushed}
 use Rattle.queue.specs.declared.Pushed.TheVariants.{Done, Full}
-use Rattle.queue.specs.declared.Front.{Front}
+use Rattle.queue.specs.Answered.{Front}
 use Rattle.queue.specs.Ring.{Cells, record_of, waiting}
 use Rattle.queue.specs.Deeds.{Clears, Pushes, Scans, front_of, held}
 

@@ -1,5 +1,6 @@
 -- What each operation says: equations on the list of the records that wait, and nothing of where these stand.
 use Rattle.std.specs.Prelude.{◌≡◌, Bool, true, not, List, [], ◌∷◌, ◌++◌, map, ℕ, ◌≤◌, ◌<◌, length, drop}
+use Rattle.std.specs.Prelude.{None, Some}
 use Rattle.std.proofs.Math.Option.{Option, none, some}
 use Rattle.basics.specs.Lists.{filter, front, back, first_one, All}
 use Rattle.rules.specs.declared.Base.{Base}
@@ -9,8 +10,7 @@ use Rattle.queue.specs.declared.Ring.{Ring}
 use Rattle.queue.specs.declared.Slot.{Slot}
 use Rattle.queue.specs.declared.Pushed.{Pushed}
 use Rattle.queue.specs.declared.Pushed.TheVariants.{Done, Full}
-use Rattle.queue.specs.declared.Front.{Front}
-use Rattle.queue.specs.declared.Front.TheVariants.{Nothing, At}
+use Rattle.queue.specs.Answered.{Front}
 use Rattle.queue.specs.Ring.{Cells, Fair, Sound, record_of, oldest, waiting}
 
 -- ---- clearing
@@ -73,8 +73,8 @@ pub record Scans (hits : List Record) (l : List (List ℕ)) (n : ℕ) (l' : List
 
 -- where a record starts
 abbrev pub front_of : Option Record → Front
-front_of none = Nothing
-front_of (some r) = At r.it.start
+front_of none = None
+front_of (some r) = Some r.it.start
 
 -- of the first that waits
 pub record Fronts (q : Ring) (c : Cells) (r : Front) : Type 0 where

@@ -34,13 +34,6 @@ pub enum Pushed {
     Full,
 }
 
-// Where the first that waits starts.
-#[derive(Clone, Copy)]
-pub enum Front {
-    Nothing,
-    At(u64),
-}
-
 // Where number k of a ring stands, counted from its head.
 pub fn place_of(head: usize, room: usize, k: usize) -> usize
     requires { (head < room) × (k ≤ room) × (room ≤ 65536) }
@@ -63,16 +56,15 @@ impl Ring {
         }
     }
 
-    // Where the first that waits starts, or that nothing does.
-    pub fn front(self, queue: &[[u64; 4]]) -> Front
+    // Where the first that waits starts, if any does.
+    pub fn front(self, queue: &[[u64; 4]]) -> Option<u64>
         requires { Fair self queue.now }
         ensures { Fronts self queue.now result }
     {
-        let head = self.head;
         if self.len == 0 {
-            return Front::Nothing;
+            return None;
         }
-        Front::At(queue[head][2])
+        Some(queue[self.head][2])
     }
 
     // One more at the end, where there is room.
