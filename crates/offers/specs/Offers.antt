@@ -1,6 +1,7 @@
 -- What a base gets from what waits and the least head: its records, and the offer.
-use Rattle.std.specs.Prelude.{◌≡◌, cond, List, ℕ, ltb, eqb, length}
+use Rattle.std.specs.Prelude.{◌≡◌, cond, List, ℕ, ltb, length}
 use Rattle.std.specs.Prelude.{None, Some}
+use Rattle.std.specs.Prelude as std
 use Rattle.std.proofs.Math.Option.{Option, none, some}
 use Rattle.basics.specs.Lists.{filter, first_one}
 use Rattle.rules.specs.declared.Base.{Base}
@@ -23,16 +24,17 @@ abbrev pub start_at : Chrom → ℕ → Record
 start_at c a = record { stream = record { 0 = 0 }; row = 0; it = record { chrom = c; start = a; stop = a } }
 
 -- "let T be the first record of the merged list that lies on a later chromosome, or on p's and ends after p.start": the first that waits,
--- which is live, or else the least head; stream 8 is no head
-abbrev pub target_by : Base → Front → Best → Option Record
+-- which is live, or else the least head, if there is one
+abbrev pub target_by : Base → Front → std.Option Best → Option Record
 target_by b (Some a) h = some (start_at b.chrom a)
-target_by b None h = cond (eqb h.stream.0 8) none (cond (awaited b (best_record h)) (some (start_at h.chrom h.start)) none)
+target_by b None None = none
+target_by b None (Some h) = cond (awaited b (best_record h)) (some (start_at h.chrom h.start)) none
 
 -- "After an accepted base p with start < stop"
-unfoldable pub offer_by : Base → Front → Best → Offer
+unfoldable pub offer_by : Base → Front → std.Option Best → Offer
 offer_by b f h = cond (ltb b.start b.stop) (place_for b (target_by b f h)) None
 
 -- the answer to a base, and the answer rows after it: "exactly the records of its chromosome with start < base stop and stop > base start"
-pub record Reports (q : Ring) (c : Cells) (h : Best) (b : Base) (l : List (List ℕ)) (a : Answer) (l' : List (List ℕ)) : Type 0 where
+pub record Reports (q : Ring) (c : Cells) (h : std.Option Best) (b : Base) (l : List (List ℕ)) (a : Answer) (l' : List (List ℕ)) : Type 0 where
   pub answer : a ≡ answer.Found (length (filter (overlaps b) (waiting q c))) (offer_by b (front_of (first_one (waiting q c))) h)
   pub answers : l' ≡ written answer_row (filter (overlaps b) (waiting q c)) l

@@ -12,7 +12,7 @@ ghost use Rattle.offers.specs.Offers.{start_at, offer_by, Reports};
 
 use least::Best;
 use queue::Ring;
-use rules::{Answer, Base, Chrom, Offer, Place, Stream};
+use rules::{Answer, Base, Chrom, Offer, Place};
 
 // The place for a record that starts at `start` on a chromosome, the first that the base awaits.
 fn place_for(b: Base, chrom: Chrom, start: u64) -> Offer
@@ -37,10 +37,10 @@ fn is_awaited(b: Base, h: Best) -> bool
     b.chrom < h.chrom || b.chrom == h.chrom && measures::lasts(b.start, h.stop)
 }
 
-// The offer after a base: `first` is where the first that waits starts, and h is the least head.
+// The offer after a base: `first` is where the first that waits starts.
 #[tactic(auto, unfolding(crate::specs::Offers::offer_by))]
-fn offer_after(b: Base, first: Option<u64>, h: Best) -> Offer
-    ensures { result ≡ offer_by b first h }
+fn offer_after(b: Base, first: Option<u64>, least: Option<Best>) -> Offer
+    ensures { result ≡ offer_by b first least }
 {
     if b.stop <= b.start {
         return None;
@@ -48,7 +48,8 @@ fn offer_after(b: Base, first: Option<u64>, h: Best) -> Offer
     if let Some(start) = first {
         return place_for(b, b.chrom, start);
     }
-    if h.stream == Stream(8) || !is_awaited(b, h) {
+    let h = least?;
+    if !is_awaited(b, h) {
         return None;
     }
     place_for(b, h.chrom, h.start)
@@ -56,7 +57,7 @@ fn offer_after(b: Base, first: Option<u64>, h: Best) -> Offer
 
 // The answer to a base for which no head is to be taken any more: its records are written, and a place is offered. q holds what waits, all of it
 // live for the base, and h is the least head.
-pub fn report(q: Ring, h: Best, b: Base, queue: &[[u64; 4]], answers: &mut [[u64; 2]]) -> Answer
+pub fn report(q: Ring, h: Option<Best>, b: Base, queue: &[[u64; 4]], answers: &mut [[u64; 2]]) -> Answer
     requires { Scannable q queue.now b answers.old }
     ensures { Reports q queue.now h b answers.old result answers.new }
 {
