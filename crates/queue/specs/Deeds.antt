@@ -8,9 +8,7 @@ use Rattle.rules.specs.Rows.{Record}
 use Rattle.rules.specs.Overlap.{lasts, live}
 use Rattle.queue.specs.declared.Ring.{Ring}
 use Rattle.queue.specs.declared.Slot.{Slot}
-use Rattle.queue.specs.declared.Pushed.{Pushed}
-use Rattle.queue.specs.declared.Pushed.TheVariants.{Done, Full}
-use Rattle.queue.specs.Answered.{Front}
+use Rattle.queue.specs.Answered.{Front, Pushed}
 use Rattle.queue.specs.Ring.{Cells, Fair, Sound, record_of, oldest, waiting}
 
 -- ---- clearing
@@ -40,13 +38,13 @@ pub record Refuses (q : Ring) (c c' : Cells) : Type 0 where
 
 -- one of the two, by the answer
 pub record Pushes (q : Ring) (c : Cells) (x : Slot) (p : Pushed) (c' : Cells) : Type 0 where
-  pub done : (q' : Ring) → p ≡ Done q' → Queues q c x q' c'
-  pub full : p ≡ Full → Refuses q c c'
+  pub done : (q' : Ring) → p ≡ Some q' → Queues q c x q' c'
+  pub full : p ≡ None → Refuses q c c'
 
 -- what waits after a push; nothing is said of a ring that was full
 abbrev pub held : Pushed → Cells → Option (List Record)
-held (Done q) c = some (waiting q c)
-held Full c = none
+held (Some q) c = some (waiting q c)
+held None c = none
 
 -- ---- the records of a base
 
