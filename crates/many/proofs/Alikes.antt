@@ -8,7 +8,7 @@ use lib.Dec.{eqb, leb, ltb}
 use lib.ListN.{length, set, drop, take, take-append-drop, length-drop}
 use borrow.Author.Tests.{leb-true, leb-false, ltb-true, ltb-false, eqb-true, eqb-false}
 use Rattle.rules.specs.declared.Base.{Base}
-use Rattle.rules.specs.declared.Offer.{Offer}
+use Rattle.rules.specs.Offered.{Offer}
 use Rattle.rules.specs.declared.Answer.{Answer}
 use Rattle.rules.specs.declared.Answer.TheVariants as answer
 use Rattle.rules.specs.Call as rules

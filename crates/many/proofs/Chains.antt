@@ -9,8 +9,8 @@ use lib.Seq.{take-suc-set, take-add}
 use Rattle.basics.specs.Build.{build}
 use Rattle.basics.proofs.BuildLaws.{build_snoc}
 use Rattle.rules.specs.declared.Base.{Base}
-use Rattle.rules.specs.declared.Offer.{Offer}
-use Rattle.rules.specs.declared.Offer.TheVariants.{Nothing}
+use Rattle.rules.specs.Offered.{Offer}
+use Rattle.std.specs.Prelude.{None}
 use Rattle.rules.specs.declared.Refusal.TheVariants as refusal
 use Rattle.rules.specs.declared.Answer.{Answer}
 use Rattle.rules.specs.declared.Answer.TheVariants as answer
@@ -85,7 +85,7 @@ module _ (s : Cols) (lengths : List ℕ) (t : Cols) (r : Run) (l : Lent) (ns : L
     rows : take u l'.answers ≡ all_rows os
     offer : p ≡ last_offer os
 
-  stays_whole : {k u : ℕ} {p : Offer} {v : Run} {m : Lent} {ms : List ℕ} → Sofar k u p v m ms → Whole k u p (answer.Found 0 Nothing) v m ms
+  stays_whole : {k u : ℕ} {p : Offer} {v : Run} {m : Lent} {ms : List ℕ} → Sofar k u p v m ms → Whole k u p (answer.Found 0 None) v m ms
   stays_whole y = record { os = y.os; more = []; last = []; stopped = gone; calls = calls_then y.calls none; counts = y.counts; rows = y.rows; offer = y.offer }
 
   whole : {k u : ℕ} {p : Offer} {v : Run} {m : Lent} {ms : List ℕ} {a : Answer} {w : Run} {l' : Lent} → Sofar k u p v m ms → Ends s lengths t k u v m a w l' → Whole k u p a w l' ms

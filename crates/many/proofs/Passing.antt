@@ -11,8 +11,8 @@ use borrow.Rule.Slice.PartMut.{mid_of, put_mid, take_put}
 use Rattle.basics.proofs.BoolLaws.{and_left, and_also, clash}
 use Rattle.rules.specs.declared.Base.{Base}
 use Rattle.rules.specs.declared.End.{End}
-use Rattle.rules.specs.declared.Offer.{Offer}
-use Rattle.rules.specs.declared.Offer.TheVariants.{Nothing}
+use Rattle.rules.specs.Offered.{Offer}
+use Rattle.std.specs.Prelude.{None}
 use Rattle.rules.specs.declared.Refusal.{Refusal}
 use Rattle.rules.specs.declared.Stage.TheVariants.{After}
 use Rattle.rules.specs.declared.Answer.{Answer}
@@ -112,7 +112,7 @@ pub record Next (j : Job) (a : Answer) (h : Heads) (q : Ring) (x : Mark) (p : Of
   pub passing : Passing j h q x p u k m ms
   pub below : k < length j.t.chrom
   pub enough : j.v.settings.room ≤ length m.answers - u
-  pub nothing : a ≡ answer.Found 0 Nothing
+  pub nothing : a ≡ answer.Found 0 None
 
 -- at a turn: where it goes on, the next base can be given; else this is what came of it
 pub record Turn (j : Job) (go : Bool) (a : Answer) (h : Heads) (q : Ring) (x : Mark) (p : Offer) (u k : ℕ) (m : Lent) (ms : List ℕ) : Type 0 where
@@ -122,10 +122,10 @@ pub record Turn (j : Job) (go : Bool) (a : Answer) (h : Heads) (q : Ring) (x : M
   pub answers : length m.answers ≡ length j.l.answers
   pub counts : length ms ≡ length j.ns
 
-pub begins : (j : Job) → Passable j.s j.lengths j.t j.v j.l j.ns → Shaped (heads_of j.v) → (h : Heads) → h ≡ heads_of j.v → (q : Ring) → q ≡ ring_of j.v → Turn j true (answer.Found 0 Nothing) h q j.v.mark Nothing 0 0 j.l j.ns
+pub begins : (j : Job) → Passable j.s j.lengths j.t j.v j.l j.ns → Shaped (heads_of j.v) → (h : Heads) → h ≡ heads_of j.v → (q : Ring) → q ≡ ring_of j.v → Turn j true (answer.Found 0 None) h q j.v.mark None 0 0 j.l j.ns
 begins j z shaped h i q e = rw (i, e) (record { on = λ y. first; off = λ y. absurd (clash refl y); kept = refl; answers = refl; counts = refl })
   where
-    first : Next j (answer.Found 0 Nothing) (heads_of j.v) (ring_of j.v) j.v.mark Nothing 0 0 j.l j.ns
+    first : Next j (answer.Found 0 None) (heads_of j.v) (ring_of j.v) j.v.mark None 0 0 j.l j.ns
     first = record {
       passing = record {
         passes = none;
@@ -149,21 +149,21 @@ begins j z shaped h i q e = rw (i, e) (record { on = λ y. first; off = λ y. ab
 -- after a base was answered: whether there is a further one and rows for it
 module _ {j : Job} {h : Heads} {q : Ring} {x : Mark} {p : Offer} {u k : ℕ} {m : Lent} {ms : List ℕ} (z : Passing j h q x p u k m ms) (some : 0 < k) (y : Bool)
     (is : y ≡ ltb k (length j.t.chrom) && leb j.v.settings.room (length m.answers - u)) where
-  goes : y ≡ true → Next j (answer.Found 0 Nothing) h q x p u k m ms
+  goes : y ≡ true → Next j (answer.Found 0 None) h q x p u k m ms
   goes e =
       let w : ltb k (length j.t.chrom) && leb j.v.settings.room (length m.answers - u) ≡ true = sym is ∙ e in
       record { passing = z; below = ltb-true _ _ (and_left _ _ w); enough = leb-true _ _ (and_also (ltb k (length j.t.chrom)) _ w); nothing = refl }
 
   -- there is none, or there are too few rows
-  stops : y ≡ false → Gets j (record { run = run_in h j.v.settings.chroms q x; bases = k; records = u; offer = p; last = answer.Found 0 Nothing }) m ms
+  stops : y ≡ false → Gets j (record { run = run_in h j.v.settings.chroms q x; bases = k; records = u; offer = p; last = answer.Found 0 None }) m ms
   stops e = record { run = run_in h j.v.settings.chroms q x; lent = m; passes = z.passes; ends = go (ltb k (length j.t.chrom)) refl (sym is ∙ e) }
     where
       go : (c : Bool) → ltb k (length j.t.chrom) ≡ c → c && leb j.v.settings.room (length m.answers - u) ≡ false
-          → Ends j.s j.lengths j.t k u (run_in h j.v.settings.chroms q x) m (answer.Found 0 Nothing) (run_in h j.v.settings.chroms q x) m
+          → Ends j.s j.lengths j.t k u (run_in h j.v.settings.chroms q x) m (answer.Found 0 None) (run_in h j.v.settings.chroms q x) m
       go true i f = short (ltb-true k (length j.t.chrom) i) some (omega (arith, leb-false j.v.settings.room (length m.answers - u) f, z.free, z.room))
       go false i f = all (omega (arith, ltb-false k (length j.t.chrom) i, z.most))
 
-  turns : {a : Answer} → a ≡ answer.Found 0 Nothing → Turn j y a h q x p u k m ms
+  turns : {a : Answer} → a ≡ answer.Found 0 None → Turn j y a h q x p u k m ms
   turns e = rw e (record { on = goes; off = stops; kept = z.kept; answers = z.answers; counts = z.counts })
 
 -- the next one is given

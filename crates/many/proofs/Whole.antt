@@ -9,7 +9,7 @@ use lib.ListN.{length}
 use borrow.Author.Tests.{leb-true, le-leb, eqb-true, eqb-false, eq-eqb}
 use Rattle.basics.proofs.BoolLaws.{and_left, and_also, clash}
 use Rattle.rules.specs.declared.End.{End}
-use Rattle.rules.specs.declared.Offer.TheVariants.{Nothing}
+use Rattle.std.specs.Prelude.{None}
 use Rattle.rules.specs.declared.Refusal.TheVariants.{Sizes}
 use Rattle.rules.specs.declared.Stage.{Stage}
 use Rattle.rules.specs.declared.Stage.TheVariants.{Fresh, After, Over}
@@ -96,9 +96,9 @@ module _ {s : Cols} {lengths : List ℕ} {t : Cols} {r : Run} {l : Lent} {ns : L
   -- the test of the columns, as it came out
   module _ (y : Bool) (is : y ≡ test t ns) where
     -- no base
-    pub none_given : y && eqb (length t.chrom) 0 ≡ true → (p : Passed) → p ≡ none_passed r (answer.Found 0 Nothing) → GivesAll s lengths t r l ns p l ns
+    pub none_given : y && eqb (length t.chrom) 0 ≡ true → (p : Passed) → p ≡ none_passed r (answer.Found 0 None) → GivesAll s lengths t r l ns p l ns
     none_given e p ps = subst (λ (x : Passed). GivesAll s lengths t r l ns x l ns) (sym ps)
-        (by_even (none_passed r (answer.Found 0 Nothing)) l ns (even_so t ns y is (and_left y (eqb (length t.chrom) 0) e))
+        (by_even (none_passed r (answer.Found 0 None)) l ns (even_so t ns y is (and_left y (eqb (length t.chrom) 0) e))
         (record { run = r; lent = l; passes = none; ends = all (sym (eqb-true (length t.chrom) 0 (and_also y (eqb (length t.chrom) 0) e))) }))
 
     -- the first base gets no records, the run stays as it is and so does all that was lent

@@ -4,8 +4,8 @@ use mathlib.Core.List.{List}
 use Prim.Native.Nat.{ℕ, ◌+◌}
 use native.Mathlib.Omega.{arith}
 use lib.ListN.{length}
-use Rattle.rules.specs.declared.Offer.{Offer}
-use Rattle.rules.specs.declared.Offer.TheVariants.{Nothing}
+use Rattle.rules.specs.Offered.{Offer}
+use Rattle.std.specs.Prelude.{None}
 use Rattle.rules.specs.declared.Answer.{Answer}
 use Rattle.rules.specs.declared.Answer.TheVariants as answer
 use Rattle.heads.specs.View.{Cols}
@@ -18,7 +18,7 @@ use Rattle.many.specs.Many.{base_at, behind, Passes, none, one, Unfound, Ends, a
 -- of no base answered: where it began
 record Begin (r : Run) (l : Lent) (u : ℕ) (p : Offer) (v : Run) (m : Lent) : Type 0 where
   free : u ≡ 0
-  offer : p ≡ Nothing
+  offer : p ≡ None
   run : v ≡ r
   lent : m ≡ l
 
@@ -48,7 +48,7 @@ module _ {s : Cols} {lengths : List ℕ} {t : Cols} {r : Run} {l : Lent} {ns : L
 record One (v : Run) (m : Lent) (a : Answer) (w : Run) (l' : Lent) : Type 0 where
   run : w ≡ v
   lent : l' ≡ m
-  last : a ≡ answer.Found 0 Nothing
+  last : a ≡ answer.Found 0 None
 
 ends_one : {s : Cols} {lengths : List ℕ} {t : Cols} {k u : ℕ} {v : Run} {m : Lent} {a : Answer} {w : Run} {l' : Lent} → Ends s lengths t k u v m a w l' → length t.chrom ≡ 1 → k ≡ 1 → One v m a w l'
 ends_one (all e) n i = record { run = refl; lent = refl; last = refl }
@@ -90,14 +90,14 @@ module _ {s : Cols} {lengths : List ℕ} {t : Cols} {r : Run} {l : Lent} {p : Pa
       (subst (λ (m : Lent). Gives s lengths r (base_at t 0) l (record { run = answers.run; answer = answer.Found p.records p.offer }) m) (sym e.lent) (passes_one answers.passes i))
 
   -- and nothing stopped it
-  pub single_last : p.bases ≡ 1 → p.last ≡ answer.Found 0 Nothing
+  pub single_last : p.bases ≡ 1 → p.last ≡ answer.Found 0 None
   single_last i = (ends_one answers.ends n i).last
 
   pub single_other : (p.bases ≡ 1 → ⊥) → Gives s lengths r (base_at t 0) l (record { run = p.run; answer = p.last }) l'
   single_other i = (ends_none answers.passes answers.ends n i).gives
 
   -- and no base was answered, so there are no records and nothing was offered
-  pub single_none : (p.bases ≡ 1 → ⊥) → (p.bases ≡ 0) × ((p.records ≡ 0) × ((p.offer ≡ Nothing) × Unfound p.last))
+  pub single_none : (p.bases ≡ 1 → ⊥) → (p.bases ≡ 0) × ((p.records ≡ 0) × ((p.offer ≡ None) × Unfound p.last))
   single_none i =
       let e = ends_none answers.passes answers.ends n i in
       let b = passes_none answers.passes e.none in
