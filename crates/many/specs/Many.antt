@@ -2,7 +2,7 @@
 use Rattle.std.specs.Prelude.{◌≡◌, List, ℕ, ◌+◌, ◌≤◌, ◌<◌, length, get_or, set, drop, take}
 use Rattle.rules.specs.declared.Base.{Base}
 use Rattle.rules.specs.Offered.{Offer}
-use Rattle.std.specs.Prelude.{None}
+use Rattle.std.specs.Prelude.{Option, Some, None}
 use Rattle.rules.specs.declared.Refusal.TheVariants.{Sizes}
 use Rattle.rules.specs.declared.Stage.{Stage}
 use Rattle.rules.specs.declared.Stage.TheVariants.{Fresh, After, Over}
@@ -48,14 +48,14 @@ Unfound (answer.Refused x) = Unit {0}
 Unfound (answer.Ended e) = Unit {0}
 
 -- how it came that no more bases were answered than k: v and m are the run and what was lent after these, and the last three what is given back
-pub data Ends (s : Cols) (lengths : List ℕ) (t : Cols) (k u : ℕ) (v : Run) (m : Lent) : Answer → Run → Lent → Type 0 where
+pub data Ends (s : Cols) (lengths : List ℕ) (t : Cols) (k u : ℕ) (v : Run) (m : Lent) : Option Answer → Run → Lent → Type 0 where
   -- there are no more
-  all : k ≡ length t.chrom → Ends s lengths t k u v m (answer.Found 0 None) v m
+  all : k ≡ length t.chrom → Ends s lengths t k u v m None v m
   -- there are fewer answer rows left than records can wait
-  short : k < length t.chrom → 0 < k → length m.answers < u + v.settings.room → Ends s lengths t k u v m (answer.Found 0 None) v m
+  short : k < length t.chrom → 0 < k → length m.answers < u + v.settings.room → Ends s lengths t k u v m None v m
   -- the next one was given, with as many answer rows left where it is not the first, and got no records
   other : (a : Answer) (w : Run) (l' : Lent) → k < length t.chrom → (0 < k → u + v.settings.room ≤ length m.answers) → Unfound a
-      → Gives s lengths v (base_at t k) (behind u m) (record { run = w; answer = a }) (behind u l') → Stays u m l' → Ends s lengths t k u v m a w l'
+      → Gives s lengths v (base_at t k) (behind u m) (record { run = w; answer = a }) (behind u l') → Stays u m l' → Ends s lengths t k u v m (Some a) w l'
 
 -- ---- the call
 
@@ -73,7 +73,7 @@ pub record Answers (s : Cols) (lengths : List ℕ) (t : Cols) (r : Run) (l : Len
   pub ends : Ends s lengths t p.bases p.records run lent p.last p.run l'
 
 -- no base was answered
-abbrev pub none_passed : Run → Answer → Passed
+abbrev pub none_passed : Run → Option Answer → Passed
 none_passed r a = record { run = r; bases = 0; records = 0; offer = None; last = a }
 
 -- "an ended run first (its old answer again), then 1": "lent columns differ in length"
@@ -83,7 +83,7 @@ uneven_by (After p) = answer.Refused Sizes
 uneven_by (Over e) = answer.Ended e
 
 pub record Refuses (r : Run) (l : Lent) (ns : List ℕ) (p : Passed) (l' : Lent) (ns' : List ℕ) : Type 0 where
-  pub passed : p ≡ none_passed r (uneven_by (stage_of r))
+  pub passed : p ≡ none_passed r (Some (uneven_by (stage_of r)))
   pub lent : l' ≡ l
   pub counts : ns' ≡ ns
 
