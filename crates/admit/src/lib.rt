@@ -41,15 +41,15 @@ impl Lens {
         ensures { result ≡ measured self streams chroms ring }
     {
         let room = ring.room;
-        let sized = measures::is_sized(Settings {
+        let fixed = Settings {
             streams,
             chroms,
             room,
-        });
+        };
         let columns = self.start == self.chrom && self.stop == self.chrom && self.lengths == chroms;
         let lent = self.queue == room && room <= self.answers;
         let inside = ring.head < room && ring.len <= room;
-        sized && columns && lent && inside
+        fixed.is_sized() && columns && lent && inside
     }
 }
 
