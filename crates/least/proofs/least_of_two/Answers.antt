@@ -1,5 +1,5 @@
 -- `least_of_two` meets its contract: of one stream its mark decides, of two their marks and their heads.
-use Rattle.std.proofs.Common.{◌≡◌, refl, sym, ap, ◌∙◌, Bool, leb, ◌||◌}
+use Rattle.std.proofs.Common.{refl, sym, ap, ◌∙◌, Bool, leb, ◌||◌}
 use Rattle.least.proofs.LeastLaws.{of_few}
 use Rattle.least.proofs.least_of_two.Goals as goal
 
