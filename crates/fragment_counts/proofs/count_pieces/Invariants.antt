@@ -3,12 +3,9 @@ use Rattle.layouts.specs.Given.{all_given}
 use Rattle.spans.specs.Spans.{spans}
 use lib.ListN.{length}
 use mathlib.Core.Path.{◌≡◌}
-use Prim.Native.Nat.{◌+◌, ◌-◌, ◌≤◌}
+use Prim.Native.Nat.{◌+◌, ◌≤◌}
 use Rattle.fragment_counts.proofs.count_pieces.Given as goal
 
 abbrev pub invariant-loop-i : goal.invariant-loop-i
 invariant-loop-i l =
-    (l.i ≤ length l.starts) × (l.n ≤ l.i + l.i) × (l.n + length (all_given l.giving l.base (rows_from l.starts l.stops l.i)) ≡ length (all_given l.giving l.base (spans l.starts l.stops)))
-
-abbrev pub decreases-loop-i : goal.decreases-loop-i
-decreases-loop-i l = length l.starts - l.i
+    (l.n ≤ l.i + l.i) × (l.n + length (all_given l.giving l.base (rows_from l.records.starts.now l.records.stops.now l.i)) ≡ length (all_given l.giving l.base (spans l.records.starts.now l.records.stops.now)))
