@@ -1,5 +1,5 @@
 // Spans written to two lent columns, one behind the other: the pieces of records, the gaps of a base, the ranges of pieces.
-// The two columns stay apart, and in no struct: a host lends them so, and a caller sees by `Puts` and `Fronts` what each holds afterwards.
+// The two columns of a call are two of those that `parts::fragments` is lent, and its promise `Parted` names each by itself: so they stay apart, in no struct.
 #![tactic(auto)]
 
 ghost use Rattle.std.specs.Prelude.{◌≡◌, [], ◌∷◌, ◌<◌, ◌≤◌, length, replicate};
