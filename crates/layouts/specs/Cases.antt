@@ -10,7 +10,7 @@ use Rattle.layouts.specs.declared.Written.{Written}
 use Rattle.spans.specs.Spans.{span}
 use Rattle.layouts.specs.Fragments.{pieces, walk, gaps}
 use Rattle.layouts.specs.Given.{bases}
-use Rattle.layouts.specs.Judged.{all_fitting, written, judged}
+use Rattle.layouts.specs.Judged.{all_fitting, wrote, judged}
 
 -- "Base 10-20: record 5-12 has piece 10-12, inverse 5-10; 8-25 has inverse 8-10, 20-25." "Base 0-20, records 2-5, 8-10: gaps 0-2, 5-8, 10-20."
 pub worked : (pieces Piece (span 10 20) (span 5 12) ≡ span 10 12 ∷ [])
@@ -29,6 +29,6 @@ pub refusals : (answer (span 20 10) (span 20 30 ∷ []) 0 0 ≡ Err Backwards)
     × (answer (span 10 20) (span 20 30 ∷ []) 0 0 ≡ Err Records)
     × (answer (span 0 20) (span 2 5 ∷ span 8 10 ∷ []) 2 2 ≡ Err Room)
     × (answer (span 0 20) (span 2 5 ∷ span 8 10 ∷ []) 3 1 ≡ Err Room)
-    × (answer (span 0 20) (span 2 5 ∷ span 8 10 ∷ []) 3 2 ≡ Ok (written 3 2))
+    × (answer (span 0 20) (span 2 5 ∷ span 8 10 ∷ []) 3 2 ≡ Ok (wrote 3 2))
 unfolding walk bases all_fitting flat_map
 refusals = (refl, refl, refl, refl, refl)

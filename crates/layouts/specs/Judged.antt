@@ -14,8 +14,8 @@ all_fitting base ahead [] = true
 all_fitting base ahead (r ∷ rs) = fitting base ahead r && all_fitting base r.start rs
 
 -- so many fragments and so many pieces
-abbrev pub written : ℕ → ℕ → Written
-written n m = record { fragments = n; pieces = m }
+abbrev pub wrote : ℕ → ℕ → Written
+wrote n m = record { fragments = n; pieces = m }
 
 abbrev pub unless : Bool → Refusal → Result Written Refusal → Result Written Refusal
 unless true x a = a
@@ -27,4 +27,4 @@ judged rule base rs slots room =
     unless (leb base.start base.stop) Backwards
     (unless (all_fitting base 0 rs) Records
     (unless (leb (length (layout rule base rs).bases) slots && leb (length (layout rule base rs).pieces) room) Room
-    (Ok (written (length (layout rule base rs).bases) (length (layout rule base rs).pieces)))))
+    (Ok (wrote (length (layout rule base rs).bases) (length (layout rule base rs).pieces)))))
