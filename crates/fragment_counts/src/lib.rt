@@ -82,9 +82,10 @@ fn piece_total(n: usize, rule: Rule, base: Span, records: Records) -> usize
     ensures { result ≡ length (layout rule base (spans_of records.entry)).pieces }
 {
     if n == 0 {
-        return 0;
+        0
+    } else {
+        count_pieces(rule.1, base, records)
     }
-    count_pieces(rule.1, base, records)
 }
 
 // The answer at a rule, with so many slots lent for fragments and for pieces.

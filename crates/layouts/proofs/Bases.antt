@@ -45,10 +45,6 @@ module _ (base : Span) where
   count_gaps rs = sym (simp length-map)
 
 -- pieces are there if there is a fragment
-pub pieces_none : (bs : List (Option Span)) (ps : List Span) → length bs ≡ 0 → if_any bs ps ≡ []
-pieces_none [] ps h = refl
-pieces_none (b ∷ bs) ps h = absurd (omega arith)
-
 pub pieces_all : (bs : List (Option Span)) (ps : List Span) → (length bs ≡ 0 → ⊥) → if_any bs ps ≡ ps
 pieces_all [] ps h = absurd (h refl)
 pieces_all (b ∷ bs) ps h = refl

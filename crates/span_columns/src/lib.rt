@@ -30,9 +30,10 @@ fn put_stretch(a: u64, e: u64, at: usize, starts: &mut [u64], stops: &mut [u64])
     ensures { Puts (stretch a e) at starts.old stops.old result starts.new stops.new }
 {
     if a < e {
-        return put_span(Span { start: a, stop: e }, at, starts, stops);
+        put_span(Span { start: a, stop: e }, at, starts, stops)
+    } else {
+        at
     }
-    at
 }
 
 // The parts of a record before the base and after it, behind what stands in two columns.
