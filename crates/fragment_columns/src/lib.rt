@@ -15,7 +15,7 @@ use layouts::Written;
 use span_columns::{fill_both, put_all, put_gaps, put_ranges};
 use spans::{Records, Span};
 
-// Whether the base is present in the fragments: 1, or 0.
+// Whether the base is present in the fragments, as the lent column `present` holds it: 1, or 0.
 fn mark_of(parting: Parting) -> u64
     ensures { result ≡ mark_of parting }
 {
