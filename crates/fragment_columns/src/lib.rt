@@ -33,6 +33,7 @@ fn is_owning(parting: Parting, n: usize) -> bool
 }
 
 // The base parts of n fragments, in front of their two columns.
+#[tactic(auto, unfolding(layouts::specs::Given::bases))]
 fn lay_parts(
     n: usize,
     parting: Parting,

@@ -65,6 +65,7 @@ fn are_fitting(base: Span, records: Records) -> bool
 }
 
 // How many fragments there are.
+#[tactic(auto, unfolding(layouts::specs::Given::bases))]
 fn fragment_count(parting: Parting, base: Span, records: Records) -> usize
     ensures { result ≡ length (bases parting base (spans_of records.entry)) }
 {

@@ -1,5 +1,5 @@
 -- `fragment_columns::lay_parts` meets its contract: a case for each way to part. Assumes nothing.
-use Rattle.fragment_columns.proofs.Parts.{same_bare, same_single, same_records, clips_stand, gaps_stand}
+use Rattle.fragment_columns.proofs.Parts.{same_single, same_records, clips_stand, gaps_stand}
 use Rattle.span_columns.proofs.Writing.{fits_front, fronts, fronts_as, fronts_alike}
 use Rattle.layouts.specs.Columns.{part_start, part_stop}
 use Rattle.layouts.specs.Given.{bases, all_given}
@@ -24,19 +24,6 @@ put_all-requires c =
     let h = c.requires in
     let s = clips_stand a.parting a.base (spans_of a.records) c.in-EachClip.is in
     fits_front (all_given Clip a.base (spans_of a.records)) a.bstart.now a.bstop.now (h.0 ∙ s.count) h.1 h.2
-
-pub put_gaps-requires : goal.put_gaps-requires
-put_gaps-requires c =
-    let a = c.args in
-    let h = c.requires in
-    let s = gaps_stand a.parting a.base (spans_of a.records) c.in-EachGap.is in
-    fits_front (gaps a.base (spans_of a.records)) a.bstart.now a.bstop.now (h.0 ∙ s.count) h.1 h.2
-
-pub returns-in-Bare : goal.returns-in-Bare
-returns-in-Bare c =
-    let a = c.args in
-    let rs = spans_of a.records in
-    fronts_alike 0 0 c.requires.0 (same_bare part_start a.parting a.base rs c.in-Bare.is) (same_bare part_stop a.parting a.base rs c.in-Bare.is) c.fill_both.ensures
 
 -- one value in a column of base parts that are all the base
 same : (f : Option Span → ℕ) (p : Parting) (base : Span) (rs : List Span) → (p ≡ Single) ⊎ (p ≡ EachRecord) → replicate (length (bases p base rs)) (f (some base)) ≡ map f (bases p base rs)
