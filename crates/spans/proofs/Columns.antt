@@ -8,13 +8,19 @@ use native.Mathlib.Numerals.{add-one}
 use lib.ListN.{length, get_or, drop, drop_of_length-le}
 use lib.Seq.{drop-cons}
 use Rattle.spans.specs.declared.Span.{Span}
+use Rattle.spans.specs.declared.records.Records.{Records}
 use Rattle.spans.specs.Spans.{span, spans}
+use Rattle.spans.specs.Records.{spans_of}
 
 pub length_spans : (ss es : List ℕ) → length ss ≡ length es → length (spans ss es) ≡ length ss
 unfolding zip_with
 length_spans [] es h = refl
 length_spans (s ∷ ss) [] h = absurd (omega arith)
 length_spans (s ∷ ss) (e ∷ es) h = ap suc (length_spans ss es (omega arith))
+
+-- as many records as starts
+pub count_of : (s : Records) → length (spans_of s) ≡ length s.starts.now
+count_of s = length_spans s.starts.now s.stops.now s.even
 
 get_d_spans : (ss es : List ℕ) (i : ℕ) (d : Span) → length ss ≡ length es → i < length ss → get_or (spans ss es) i d ≡ span (get_or ss i 0) (get_or es i 0)
 unfolding zip_with

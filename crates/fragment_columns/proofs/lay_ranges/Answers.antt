@@ -2,7 +2,7 @@
 use Rattle.fragment_columns.proofs.Parts.{owning_count, shared_starts, shared_stops}
 use Rattle.layouts.proofs.Bases.{length_owned}
 use Rattle.span_columns.proofs.Writing.{fits_front, fronts, fronts_alike}
-use Rattle.spans.proofs.Columns.{length_spans}
+use Rattle.spans.proofs.Columns.{count_of}
 use Rattle.layouts.specs.Layout.{owning, owned}
 use Rattle.layouts.specs.Given.{bases, given, all_given}
 use Rattle.spans.specs.Records.{spans_of}
@@ -16,7 +16,7 @@ use Rattle.fragment_columns.proofs.lay_ranges.Goals as goal
 
 -- the test of the code, by how many records there are
 owning_by : (p : Parting) (s : Records) {n : ℕ} {t : Bool} → n ≡ length s.starts.now → t ≡ owning p n → owning p (length (spans_of s)) ≡ t
-owning_by p s e o = ap (owning p) (length_spans s.starts.now s.stops.now s.even ∙ sym e) ∙ sym o
+owning_by p s e o = ap (owning p) (count_of s ∙ sym e) ∙ sym o
 
 pub put_ranges-requires : goal.put_ranges-requires
 put_ranges-requires c =

@@ -8,16 +8,16 @@ pub returns-then-not-is_fitting : goal.returns-then-not-is_fitting
 returns-then-not-is_fitting c =
     let s = c.args.records in
     let l = c.loop-i in
-    sym (sym l.invariant ∙ fitting_at s.starts.now s.stops.now l.i s.even (omega arith) c.args.base l.ahead ∙ rw (rw c.at-r.ensures at (sym c.is_fitting.ensures ∙ c.if-not-is_fitting.true)))
+    sym (sym l.invariant ∙ fitting_at s l.i (omega arith) c.args.base l.ahead ∙ rw (rw c.at-r.ensures at (sym c.is_fitting.ensures ∙ c.if-not-is_fitting.true)))
 
 pub loop-i-preserved : goal.loop-i-preserved
 loop-i-preserved c =
     let s = c.args.records in
     let l = c.loop-i in
-    rw c.at-r.ensures (sym (rw (rw c.at-r.ensures at (sym c.is_fitting.ensures ∙ c.if-not-is_fitting.false)) at (fitting_at s.starts.now s.stops.now l.i s.even (omega arith) c.args.base l.ahead)) ∙ l.invariant)
+    rw c.at-r.ensures (sym (rw (rw c.at-r.ensures at (sym c.is_fitting.ensures ∙ c.if-not-is_fitting.false)) at (fitting_at s l.i (omega arith) c.args.base l.ahead)) ∙ l.invariant)
 
 pub returns : goal.returns
 returns c =
     let s = c.args.records in
     let l = c.loop-i in
-    sym (sym l.invariant ∙ fitting_end s.starts.now s.stops.now l.i s.even (omega arith) c.args.base l.ahead)
+    sym (sym l.invariant ∙ fitting_end s l.i (omega arith) c.args.base l.ahead)

@@ -14,14 +14,14 @@ pub loop-i-preserved : goal.loop-i-preserved
 loop-i-preserved c =
     let s = c.args.records in
     let l = c.loop-i in
-    let r = row s.starts.now s.stops.now l.i in (
+    let r = row s l.i in (
       omega (arith, c.stretch_count-n.ensures.1),
       rw (c.next_place-place.ensures, c.at-r.ensures) (omega (
         arith,
         l.invariant.1,
         rw (c.gap_end.ensures, c.at-r.ensures) at c.stretch_count-n.ensures.0,
-        ap length (walk_at s.starts.now s.stops.now l.i s.even (omega arith) l.place c.args.base.stop),
-        length-append (stretch l.place (gap_end l.place r)) (walk (next_place l.place r) c.args.base.stop (rows_from s.starts.now s.stops.now (l.i + 1))),
+        ap length (walk_at s l.i (omega arith) l.place c.args.base.stop),
+        length-append (stretch l.place (gap_end l.place r)) (walk (next_place l.place r) c.args.base.stop (rows_from s (l.i + 1))),
       )),
     )
 
@@ -33,6 +33,6 @@ returns c =
       arith,
       l.invariant.1,
       c.stretch_count.ensures.0,
-      ap length (walk_end s.starts.now s.stops.now l.i s.even (omega arith) l.place c.args.base.stop),
+      ap length (walk_end s l.i (omega arith) l.place c.args.base.stop),
       length-append (stretch l.place c.args.base.stop) [],
     )

@@ -17,8 +17,8 @@ loop-i-preserved c =
         arith,
         l.invariant.1,
         rw c.at.ensures at c.piece_count-n.ensures.0,
-        ap length (given_at s.starts.now s.stops.now l.i s.even (omega arith) a.giving a.base),
-        length-append (given a.giving a.base (row s.starts.now s.stops.now l.i)) (all_given a.giving a.base (rows_from s.starts.now s.stops.now (l.i + 1))),
+        ap length (given_at s l.i (omega arith) a.giving a.base),
+        length-append (given a.giving a.base (row s l.i)) (all_given a.giving a.base (rows_from s (l.i + 1))),
       ),
     )
 
@@ -27,4 +27,4 @@ returns c =
     let a = c.args in
     let s = a.records in
     let l = c.loop-i in
-    omega (arith, l.invariant.1, ap length (given_end s.starts.now s.stops.now l.i s.even (omega arith) a.giving a.base))
+    omega (arith, l.invariant.1, ap length (given_end s l.i (omega arith) a.giving a.base))

@@ -1,6 +1,6 @@
 -- `fragment_counts::fragment_count` meets its contract: one fragment a record, or one for none. Assumes nothing.
 use Rattle.layouts.proofs.Bases.{count_none, count_records, count_clips}
-use Rattle.spans.proofs.Columns.{length_spans}
+use Rattle.spans.proofs.Columns.{count_of}
 use Rattle.spans.specs.Records.{spans_of}
 use Rattle.spans.specs.declared.Span.{Span}
 use Rattle.fragment_rules.specs.declared.Parting.TheVariants.{EachRecord}
@@ -19,9 +19,9 @@ each base (r ∷ rs) = omega (arith, count_records base (r ∷ rs) (λ h. omega 
 pub returns-in-EachRecord : goal.returns-in-EachRecord
 returns-in-EachRecord c =
     let s = c.args.records in
-    rw (c.in-EachRecord.is, c.max.ensures, c.len.ensures, ← length_spans s.starts.now s.stops.now s.even) (each c.args.base (spans_of s))
+    rw (c.in-EachRecord.is, c.max.ensures, c.len.ensures, ← count_of s) (each c.args.base (spans_of s))
 
 pub returns-in-EachClip : goal.returns-in-EachClip
 returns-in-EachClip c =
     let s = c.args.records in
-    rw c.in-EachClip.is (c.len-in-EachClip.ensures ∙ sym (length_spans s.starts.now s.stops.now s.even) ∙ count_clips c.args.base (spans_of s))
+    rw c.in-EachClip.is (c.len-in-EachClip.ensures ∙ sym (count_of s) ∙ count_clips c.args.base (spans_of s))

@@ -10,20 +10,20 @@ put_pieces-at-requires c =
     let a = c.args in
     let s = a.records in
     let l = c.loop-i in
-    rw c.at.ensures (filling_fits _ _ _ _ _ _ (given a.giving a.base (row s.starts.now s.stops.now l.i)) _
-    (given_at s.starts.now s.stops.now l.i s.even (omega arith) a.giving a.base) l.invariant c.requires)
+    rw c.at.ensures (filling_fits _ _ _ _ _ _ (given a.giving a.base (row s l.i)) _
+    (given_at s l.i (omega arith) a.giving a.base) l.invariant c.requires)
 
 pub loop-i-preserved : goal.loop-i-preserved
 loop-i-preserved c =
     let a = c.args in
     let s = a.records in
     let l = c.loop-i in
-    filling_step _ _ _ _ _ _ (given a.giving a.base (row s.starts.now s.stops.now l.i)) _
-    (given_at s.starts.now s.stops.now l.i s.even (omega arith) a.giving a.base) l.invariant (rw c.at.ensures at c.put_pieces-at.ensures)
+    filling_step _ _ _ _ _ _ (given a.giving a.base (row s l.i)) _
+    (given_at s l.i (omega arith) a.giving a.base) l.invariant (rw c.at.ensures at c.put_pieces-at.ensures)
 
 pub returns : goal.returns
 returns c =
     let a = c.args in
     let s = a.records in
     let l = c.loop-i in
-    filling_end _ _ _ _ _ _ (given_end s.starts.now s.stops.now l.i s.even (omega arith) a.giving a.base) l.invariant
+    filling_end _ _ _ _ _ _ (given_end s l.i (omega arith) a.giving a.base) l.invariant

@@ -13,16 +13,16 @@ put_stretch-at-requires c =
     let a = c.args in
     let s = a.records in
     let l = c.loop-i in
-    rw (c.gap_end.ensures, c.at-r.ensures) (filling_fits _ _ _ _ _ _ (stretch l.place (gap_end l.place (row s.starts.now s.stops.now l.i))) _
-    (walk_at s.starts.now s.stops.now l.i s.even (omega arith) l.place a.base.stop) l.invariant c.requires)
+    rw (c.gap_end.ensures, c.at-r.ensures) (filling_fits _ _ _ _ _ _ (stretch l.place (gap_end l.place (row s l.i))) _
+    (walk_at s l.i (omega arith) l.place a.base.stop) l.invariant c.requires)
 
 pub loop-i-preserved : goal.loop-i-preserved
 loop-i-preserved c =
     let a = c.args in
     let s = a.records in
     let l = c.loop-i in
-    rw (c.next_place-place.ensures, c.at-r.ensures) (filling_step _ _ _ _ _ _ (stretch l.place (gap_end l.place (row s.starts.now s.stops.now l.i))) _
-    (walk_at s.starts.now s.stops.now l.i s.even (omega arith) l.place a.base.stop) l.invariant
+    rw (c.next_place-place.ensures, c.at-r.ensures) (filling_step _ _ _ _ _ _ (stretch l.place (gap_end l.place (row s l.i))) _
+    (walk_at s l.i (omega arith) l.place a.base.stop) l.invariant
     (rw (c.gap_end.ensures, c.at-r.ensures) at c.put_stretch-at.ensures))
 
 pub put_stretch-requires : goal.put_stretch-requires
@@ -31,7 +31,7 @@ put_stretch-requires c =
     let s = a.records in
     let l = c.loop-i in
     filling_fits _ _ _ _ _ _ (stretch l.place a.base.stop) []
-    (walk_end s.starts.now s.stops.now l.i s.even (omega arith) l.place a.base.stop) l.invariant c.requires
+    (walk_end s l.i (omega arith) l.place a.base.stop) l.invariant c.requires
 
 pub returns : goal.returns
 returns c =
@@ -39,4 +39,4 @@ returns c =
     let s = a.records in
     let l = c.loop-i in
     filling_end _ _ _ _ _ _ refl (filling_step _ _ _ _ _ _ (stretch l.place a.base.stop) []
-    (walk_end s.starts.now s.stops.now l.i s.even (omega arith) l.place a.base.stop) l.invariant c.put_stretch.ensures)
+    (walk_end s l.i (omega arith) l.place a.base.stop) l.invariant c.put_stretch.ensures)

@@ -2,7 +2,7 @@
 use mathlib.Core.List.{[], ◌∷◌}
 use Rattle.layouts.proofs.Rows.{row, rows_from, owned_at, owned_end}
 use Rattle.span_columns.proofs.Writing.{filling_step, filling_end}
-use Rattle.spans.proofs.Columns.{length_spans}
+use Rattle.spans.proofs.Columns.{count_of}
 use Rattle.layouts.specs.Layout.{owned}
 use Rattle.layouts.specs.Given.{given}
 use Rattle.spans.specs.Spans.{span}
@@ -16,7 +16,7 @@ pub put_span-requires : goal.put_span-requires
 put_span-requires c =
     let s = c.args.records in
     let f = c.loop-i.invariant.1 in
-    omega (arith, length_spans s.starts.now s.stops.now s.even, c.requires.starts_fit, c.requires.stops_fit, f.long_starts, f.long_stops)
+    omega (arith, count_of s, c.requires.starts_fit, c.requires.stops_fit, f.long_starts, f.long_stops)
 
 pub loop-i-preserved : goal.loop-i-preserved
 loop-i-preserved c =
@@ -25,11 +25,11 @@ loop-i-preserved c =
     let l = c.loop-i in
     let f = given a.giving a.base in
     let n = rw c.at.ensures at c.piece_count.ensures.0 in
-    let next = l.at + length (f (row s.starts.now s.stops.now l.i)) in
+    let next = l.at + length (f (row s l.i)) in
     let p = rw (n, c.put_span.ensures.after) at c.put_span.ensures in (
       omega (arith, c.piece_count.ensures.1),
-      rw n (filling_step _ _ _ _ _ _ (span l.at next ∷ []) (owned f next (rows_from s.starts.now s.stops.now (l.i + 1)))
-          (owned_at s.starts.now s.stops.now l.i s.even (omega arith) f l.at) l.invariant.1 p),
+      rw n (filling_step _ _ _ _ _ _ (span l.at next ∷ []) (owned f next (rows_from s (l.i + 1)))
+          (owned_at s l.i (omega arith) f l.at) l.invariant.1 p),
     )
 
 pub returns : goal.returns
@@ -38,4 +38,4 @@ returns c =
     let s = a.records in
     let l = c.loop-i in
     let all : c.len.result ≡ l.i = omega arith in
-    rw all (filling_end _ _ _ _ _ _ (owned_end s.starts.now s.stops.now l.i s.even (omega arith) (given a.giving a.base) l.at) l.invariant.1)
+    rw all (filling_end _ _ _ _ _ _ (owned_end s l.i (omega arith) (given a.giving a.base) l.at) l.invariant.1)
