@@ -28,8 +28,8 @@ fn count_pieces(giving: Giving, base: Span, records: Records) -> usize
     ensures { result ≡ length (all_given giving base (spans_of records.entry)) }
 {
     let mut n: usize = 0;
-    for i in 0..records.len() {
-        n += piece_count(giving, base, records.at(i));
+    for r in records {
+        n += piece_count(giving, base, r);
     }
     n
 }
@@ -41,8 +41,7 @@ fn count_gaps(base: Span, records: Records) -> usize
     let end = base.stop;
     let mut place = base.start;
     let mut n: usize = 0;
-    for i in 0..records.len() {
-        let r = records.at(i);
+    for r in records {
         n += stretch_count(place, gap_end(place, r));
         place = next_place(place, r);
     }
@@ -54,8 +53,7 @@ fn are_fitting(base: Span, records: Records) -> bool
     ensures { result ≡ all_fitting base 0 (spans_of records.entry) }
 {
     let mut ahead: u64 = 0;
-    for i in 0..records.len() {
-        let r = records.at(i);
+    for r in records {
         if !is_fitting(base, ahead, r) {
             return false;
         }

@@ -77,8 +77,8 @@ pub fn put_all(
     ensures { Puts (all_given giving base (spans_of records.entry)) 0 starts.old stops.old result starts.new stops.new }
 {
     let mut at: usize = 0;
-    for i in 0..records.len() {
-        at = put_pieces(giving, base, records.at(i), at, starts, stops);
+    for r in records {
+        at = put_pieces(giving, base, r, at, starts, stops);
     }
     at
 }
@@ -91,8 +91,7 @@ pub fn put_gaps(base: Span, records: Records, starts: &mut [u64], stops: &mut [u
     let end = base.stop;
     let mut place = base.start;
     let mut at: usize = 0;
-    for i in 0..records.len() {
-        let r = records.at(i);
+    for r in records {
         at = put_stretch(place, gap_end(place, r), at, starts, stops);
         place = next_place(place, r);
     }
@@ -110,17 +109,18 @@ pub fn put_ranges(
     requires { Fits (spans_of records) 0 from.old to.old }
     ensures { Puts (owned (given giving base) 0 (spans_of records.entry)) 0 from.old to.old result from.new to.new }
 {
+    let mut done: usize = 0;
     let mut at: usize = 0;
-    for i in 0..records.len() {
-        let next = at + piece_count(giving, base, records.at(i));
+    for r in records {
+        let next = at + piece_count(giving, base, r);
         let range = Span {
             start: at as u64,
             stop: next as u64,
         };
-        put_span(range, i, from, to);
+        done = put_span(range, done, from, to);
         at = next;
     }
-    records.len()
+    done
 }
 
 // Two values in the first n places of two columns.

@@ -9,7 +9,7 @@ ghost use Rattle.std.specs.Prelude.{◌≡◌, ◌++◌, ◌≤◌, min, max, le
 ghost use Rattle.spans.specs.Spans.{stretch, clipped, before, after};
 ghost use Rattle.spans.specs.Fitting.{fitting};
 
-pub use records::Records;
+pub use records::{Records, Rows};
 pub use turn::{gap_end, next_place};
 
 // A start and a stop; the stop is not part of it.

@@ -1,6 +1,5 @@
 // One stream's records, lent as two columns.
-ghost use Rattle.std.specs.Prelude.{◌≡◌, ◌<◌, ◌↔◌, length, slice_index, IsSome, IfSome};
-ghost use Rattle.spans.specs.Spans.{span};
+ghost use Rattle.std.specs.Prelude.{◌≡◌, ◌↔◌, length, IsSome, IfSome};
 
 use crate::Span;
 
@@ -31,15 +30,43 @@ impl<'a> Records<'a> {
     {
         self.starts.len()
     }
+}
 
-    // The record at a place.
-    pub fn at(self, i: usize) -> Span
-        requires { i < length self.starts.now }
-        ensures { result ≡ span (slice_index self.entry.starts.now i) (slice_index self.entry.stops.now i) }
-    {
-        Span {
-            start: self.starts[i],
-            stop: self.stops[i],
-        }
+impl<'a> IntoIterator for Records<'a> {
+    type Item = Span;
+
+    type IntoIter = Rows<'a>;
+
+    ghost into_iter_gives = { λ records rows. rows.left ≡ records };
+
+    fn into_iter(self) -> Rows<'a> {
+        Rows { left: self }
+    }
+}
+
+// The records that are left in a loop over all.
+#[derive(Drop)]
+pub struct Rows<'a> {
+    pub left: Records<'a>,
+}
+
+impl<'a> Iterator for Rows<'a> {
+    ghost use Rattle.std.specs.Iterator.{YieldsFirst, item_count};
+    ghost use Rattle.spans.specs.Records.{rest};
+
+    type Item = Span;
+
+    ghost next_gives = { YieldsFirst rest };
+
+    ghost remaining = { item_count rest };
+
+    fn next(&mut self) -> Option<Span> {
+        let (start, starts) = self.left.starts.split_first()?;
+        let (stop, stops) = self.left.stops.split_first()?;
+        self.left = Records { starts, stops };
+        Some(Span {
+            start: *start,
+            stop: *stop,
+        })
     }
 }
