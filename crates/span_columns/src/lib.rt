@@ -84,6 +84,7 @@ pub fn put_all(
 }
 
 // The gaps of the base, from the front of two columns on; how many.
+// The walk stands here and in `count_gaps`: gaps as an iterator would need a loop of its own in `next`, past empty stretches, and be no plainer than both.
 pub fn put_gaps(base: Span, records: Records, starts: &mut [u64], stops: &mut [u64]) -> usize
     requires { Fits (gaps base (spans_of records)) 0 starts.old stops.old }
     ensures { Puts (gaps base (spans_of records.entry)) 0 starts.old stops.old result starts.new stops.new }
