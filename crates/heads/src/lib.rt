@@ -65,7 +65,7 @@ pub struct Heads {
 
 // Whether a head is taken at a base: it lies on an earlier chromosome, or on the base's with start < base stop. Not by `cmp`: that costs ten
 // instructions a record more than the bar of `docs/PERFORMANCE.md` leaves.
-fn is_taken(b: Base, h: Best) -> bool
+pub fn is_taken(b: Base, h: Best) -> bool
     ensures { result ≡ taken b (best_record h) }
 {
     if h.chrom < b.chrom {
@@ -78,7 +78,7 @@ fn is_taken(b: Base, h: Best) -> bool
 }
 
 // Whether a head is live for a base: it is on the base's chromosome and ends after base start.
-fn is_live(b: Base, h: Best) -> bool
+pub fn is_live(b: Base, h: Best) -> bool
     ensures { result ≡ live b (best_record h) }
 {
     h.chrom == b.chrom && measures::lasts(b.start, h.stop)
