@@ -5,7 +5,7 @@ mod mark;
 mod start;
 
 ghost use Rattle.std.specs.Prelude.{◌≡◌, ◌<◌};
-ghost use Rattle.heads.specs.View.{four_at, column_in, heads_in};
+ghost use Rattle.heads.specs.View.{four_at, fours_of, column_in, heads_in};
 ghost use Rattle.runs.specs.View.{heads_of, ring_of, stage_of, run_in, over_of};
 
 use heads::Heads;
@@ -79,7 +79,8 @@ impl Run {
 
     // The heads, as an array of fours that is built from the flat arrays.
     pub fn heads(&self) -> Heads
-        ensures { heads_in result ≡ heads_of self.now }
+        ensures fours { result.fours ≡ fours_of self.now.chrom self.now.start self.now.stop self.now.row }
+        ensures heads { heads_in result ≡ heads_of self.now }
     {
         Heads {
             fours: [

@@ -13,7 +13,7 @@ pub loop-k-init : goal.loop-k-init
 loop-k-init c =
     let job : Job = record { s = cols_of c.args.s; lengths = c.args.lengths.now; t = cols_of c.args.bases; v = c.args.run; l = lent c.args.queue.now c.args.answers.now; ns = c.args.counts.now } in
     let shaped : Shaped (heads_of c.args.run) = search rules in
-    record { passing = begins job c.requires shaped _ c.heads-heads.ensures _ c.ring-ring.ensures; passed = refl; last = refl; first = λ e. first_enough job c.requires }
+    record { passing = begins job c.requires shaped _ c.heads-heads.ensures.heads _ c.ring-ring.ensures; passed = refl; last = refl; first = λ e. first_enough job c.requires }
 
 pub overflow_add-free : goal.overflow_add-free
 overflow_add-free c =
