@@ -91,11 +91,18 @@ fn is_good(n: u64, x: Next) -> bool
     x.chrom.0 < n && x.start <= x.stop
 }
 
-// Whether a row is in order behind a head, by chromosome and start; else 8.
+// Whether a row is in order behind a head, by chromosome and start; else 8. Not by comparing tuples: that costs five instructions a record more, and
+// one stream alone then misses the bar of `docs/PERFORMANCE.md`.
 fn is_ordered(h: Best, x: Next) -> bool
     ensures { result ≡ follows (best_record h).it (next_row x) }
 {
-    (h.chrom, h.start) <= (x.chrom, x.start)
+    if h.chrom < x.chrom {
+        return true;
+    }
+    if x.chrom < h.chrom {
+        return false;
+    }
+    h.start <= x.start
 }
 
 // 7 and 8, out of line: a run meets one of them once at most.
