@@ -122,10 +122,8 @@ fn rows_ahead(r: Result<usize, ReadError>) -> usize
 fn check_verdict(list: NameList) -> Result<(), InputError>
     ensures { result ≡ check_verdict (check_of list.entry.text.now list.entry.from.now list.entry.to.now) }
 {
-    match chroms::check_list(list) {
-        Ok(()) => Ok(()),
-        Err(x) => Err(InputError::from(x)),
-    }
+    chroms::check_list(list)?;
+    Ok(())
 }
 
 // Whether the ends part n bytes: none of them falls, and the last is n.
