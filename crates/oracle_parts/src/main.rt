@@ -5,7 +5,7 @@
 
 ghost use Rattle.std.specs.Prelude.{◌≤◌, length, IfOk};
 
-use parts::{Answer, Choice, Span};
+use parts::{Choice, Span};
 use std::io::Read;
 use std::{fs, io};
 use tests_shared::{Num, at, is_end, line_end, matches, more, nothing, number};
@@ -177,10 +177,19 @@ fn replay(
         &mut pstop,
     );
     match r {
-        Answer::Written(n, _) => same(
-            text, from, n, &present, &bstart, &bstop, &first, &end, &pstart, &pstop,
+        Ok(written) => same(
+            text,
+            from,
+            written.fragments,
+            &present,
+            &bstart,
+            &bstop,
+            &first,
+            &end,
+            &pstart,
+            &pstop,
         ),
-        Answer::Refused(_) => false,
+        Err(_) => false,
     }
 }
 
