@@ -11,7 +11,7 @@ use borrow.Author.Tests.{eqb-true, lt-ltb, le-ltb, le-leb, lt-leb}
 use Rattle.rules.specs.declared.Base.{Base}
 use Rattle.rules.specs.declared.Refusal.TheVariants.{Beyond, Unlisted, Unordered, Reversed}
 use Rattle.rules.specs.Bases.{beyond, in_order, judge}
-use Rattle.admit.specs.declared.Gate.TheVariants.{Open, Shut}
+use Rattle.std.specs.Prelude.{Ok, Err}
 use Rattle.admit.specs.Gates.{known, lengths_of, judged_of}
 
 -- no stop of 64 bits lies beyond the largest number
@@ -28,18 +28,18 @@ known_at (x ∷ ls) zero h = refl
 known_at (x ∷ ls) (suc k) h = known_at ls k (omega arith)
 
 module _ (ls : List ℕ) (last : Option Base) (b : Base) where
-  pub judge_unlisted : length ls ≤ b.chrom.0 → Shut Unlisted ≡ judged_of (judge (lengths_of ls) last b)
+  pub judge_unlisted : length ls ≤ b.chrom.0 → Err Unlisted ≡ judged_of (judge (lengths_of ls) last b)
   unfolding judge
   judge_unlisted h = rw (length-map ls known, le-leb (length ls) b.chrom.0 h)
 
   module _ (here : b.chrom.0 < length ls) where
-    pub judge_reversed : b.stop < b.start → Shut Reversed ≡ judged_of (judge (lengths_of ls) last b)
+    pub judge_reversed : b.stop < b.start → Err Reversed ≡ judged_of (judge (lengths_of ls) last b)
     unfolding judge
     judge_reversed h = rw (length-map ls known, lt-leb (length ls) b.chrom.0 here, lt-ltb b.stop b.start h)
 
-    -- the length that stands at `at`
-    module _ (fore : b.start ≤ b.stop) (fits : b.stop ≤ 18446744073709551615) (at : ℕ) (its : at ≡ b.chrom.0) where
-      onward : judge (lengths_of ls) last b ≡ cond (ltb (get_or ls at 0) b.stop) (some Beyond) (cond (in_order last b) none (some Unordered))
+    -- the length that stands there
+    module _ (fore : b.start ≤ b.stop) (fits : b.stop ≤ 18446744073709551615) (x : ℕ) (its : x ≡ get_or ls b.chrom.0 0) where
+      onward : judge (lengths_of ls) last b ≡ cond (ltb x b.stop) (some Beyond) (cond (in_order last b) none (some Unordered))
       unfolding judge
       onward =
           rw (
@@ -51,12 +51,12 @@ module _ (ls : List ℕ) (last : Option Base) (b : Base) where
             beyond_known (get_or ls b.chrom.0 0) b.stop fits,
           )
 
-      pub judge_beyond : get_or ls at 0 < b.stop → Shut Beyond ≡ judged_of (judge (lengths_of ls) last b)
-      judge_beyond h = rw (onward, lt-ltb (get_or ls at 0) b.stop h)
+      pub judge_beyond : x < b.stop → Err Beyond ≡ judged_of (judge (lengths_of ls) last b)
+      judge_beyond h = rw (onward, lt-ltb x b.stop h)
 
-      module _ (near : b.stop ≤ get_or ls at 0) (r : Bool) (is : r ≡ in_order last b) where
-        pub judge_unordered : r ≡ false → Shut Unordered ≡ judged_of (judge (lengths_of ls) last b)
-        judge_unordered e = rw (onward, le-ltb (get_or ls at 0) b.stop near, ← is, e)
+      module _ (near : b.stop ≤ x) (r : Bool) (is : r ≡ in_order last b) where
+        pub judge_unordered : r ≡ false → Err Unordered ≡ judged_of (judge (lengths_of ls) last b)
+        judge_unordered e = rw (onward, le-ltb x b.stop near, ← is, e)
 
-        pub judge_open : r ≡ true → Open ≡ judged_of (judge (lengths_of ls) last b)
-        judge_open e = rw (onward, le-ltb (get_or ls at 0) b.stop near, ← is, e)
+        pub judge_open : r ≡ true → Ok tt ≡ judged_of (judge (lengths_of ls) last b)
+        judge_open e = rw (onward, le-ltb x b.stop near, ← is, e)

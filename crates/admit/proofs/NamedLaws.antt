@@ -13,7 +13,8 @@ use Rattle.basics.proofs.ListLaws.{all_true, all_pass}
 use Rattle.basics.proofs.EdgeLaws.{upto_pass, upto_fail}
 use Rattle.rules.specs.Rows.{Record}
 use Rattle.queue.specs.declared.Ring.{Ring}
-use Rattle.queue.specs.Ring.{Cells, slot_at, place, waiting}
+use Rattle.queue.specs.declared.Slot.{Slot}
+use Rattle.queue.specs.Ring.{Cells, slot_at, place, nth, waiting}
 use Rattle.queue.proofs.Calls.{all_waiting, waiting_all}
 use Rattle.admit.specs.Right.{named, head_named, heads_named, slots_named}
 use Rattle.least.specs.Fours.{is_ended}
@@ -59,26 +60,26 @@ module _ (n : ℕ) (from to : List ℕ) where
   -- ---- records that wait
 
   -- number j of a ring
-  abbrev pub slot_named : ℕ → ℕ → Cells → ℕ → Bool
-  slot_named head room c j = named n from to (slot_at c (place head room j)).stream.0 (slot_at c (place head room j)).row
+  abbrev pub slot_named : Ring → Cells → ℕ → Bool
+  slot_named q c j = named n from to (nth q c j).stream.0 (nth q c j).row
 
   -- the first k of a ring
-  pub record Slotting (head len room : ℕ) (c : Cells) (k : ℕ) : Type 0 where
-    pub within : k ≤ len
-    pub each : (j : ℕ) → j < k → slot_named head room c j ≡ true
+  pub record Slotting (q : Ring) (c : Cells) (k : ℕ) : Type 0 where
+    pub within : k ≤ q.len
+    pub each : (j : ℕ) → j < k → slot_named q c j ≡ true
 
-  module _ (q : Ring) (c : Cells) (k : ℕ) (v : Slotting q.head q.len q.room c k) where
+  module _ (q : Ring) (c : Cells) (k : ℕ) (v : Slotting q c k) where
     pub slotting_end : q.len ≤ k → slots_named n from to q c ≡ true
     unfolding slots_named
     slotting_end h = all_pass (all_waiting q c (λ j b. v.each j (omega (arith, v.within))))
 
-    -- one record more, which stands at `at`
-    module _ (at : ℕ) (r : Bool) (more : k < q.len) (here : at ≡ place q.head q.room k) (is : r ≡ named n from to (slot_at c at).stream.0 (slot_at c at).row) where
-      at_k : slot_named q.head q.room c k ≡ r
-      at_k = rw (← here) (sym is)
+    -- one record more
+    module _ (x : Slot) (r : Bool) (more : k < q.len) (here : x ≡ slot_at c (place q.head q.room k)) (is : r ≡ named n from to x.stream.0 x.row) where
+      at_k : slot_named q c k ≡ r
+      at_k = sym (rw here at is)
 
-      pub slotting_next : r ≡ true → Slotting q.head q.len q.room c (k + 1)
-      slotting_next e = record { within = omega arith; each = below_more (λ (j : ℕ). slot_named q.head q.room c j ≡ true) k v.each (at_k ∙ e) }
+      pub slotting_next : r ≡ true → Slotting q c (k + 1)
+      slotting_next e = record { within = omega arith; each = below_more (λ (j : ℕ). slot_named q c j ≡ true) k v.each (at_k ∙ e) }
 
       pub slotting_stop : r ≡ false → slots_named n from to q c ≡ false
       unfolding slots_named

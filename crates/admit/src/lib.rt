@@ -1,15 +1,15 @@
 // Whether a base is let in to a run that goes on: refusal 1 (`is_right`), then 4, 6, 3, 5 (`judge`). There are tests only, and nothing is written.
 #![tactic(auto)]
 
-ghost use Rattle.std.specs.Prelude.{◌≡◌, ◌||◌, ℕ, ◌-◌, ◌≤◌, ltb, length};
-ghost use Rattle.rules.specs.Bases.{not_before, in_order, judge};
+ghost use Rattle.std.specs.Prelude.{◌≡◌, ◌||◌, ℕ, ◌-◌, ◌≤◌, ◌<◌, ltb, length, get_or};
+ghost use Rattle.rules.specs.Bases.{in_order, judge};
 ghost use Rattle.least.specs.Fours.{is_ended};
 ghost use Rattle.queue.specs.Ring.{Fair};
 ghost use Rattle.admit.specs.Right.{measured, named, heads_named, slots_named, right};
 ghost use Rattle.admit.specs.Gates.{lengths_of, last_of, judged_of};
 
 use queue::Ring;
-use rules::{Base, Refusal, Settings, Stage};
+use rules::{Base, Refusal, Settings, Stage, Stream};
 
 // The lengths of what is lent with a base: the streams' columns, the chromosomes' lengths, the queue's slots and the answer rows.
 #[derive(Clone, Copy)]
@@ -22,132 +22,90 @@ pub struct Lens {
     pub answers: usize,
 }
 
-// Whether a base is let in.
+// The streams of a run: how many there are, and of each whether it has ended, its head's row, the place of the row behind its head, and where its
+// rows begin and end.
 #[derive(Clone, Copy)]
-pub enum Gate {
-    Open,
-    Shut(Refusal),
+pub struct Streams<'a> {
+    pub count: usize,
+    pub ended: &'a [u64; 8],
+    pub row: &'a [u64; 8],
+    pub next: &'a [usize; 8],
+    pub from: &'a [usize; 8],
+    pub to: &'a [usize; 8],
 }
 
-// Whether each size is kept to: the paper's, and those of the columns to one another and to the ring.
-fn is_measured(streams: usize, chroms: usize, ring: Ring, l: Lens) -> bool
-    ensures { result ≡ measured l streams chroms ring }
-{
-    let room = ring.room;
-    let sized = measures::is_sized(Settings {
-        streams: streams,
-        chroms: chroms,
-        room: room,
-    });
-    let columns = (l.start == l.chrom) & ((l.stop == l.chrom) & (l.lengths == chroms));
-    let lent = (l.queue == room) & (room <= l.answers);
-    let inside = (ring.head < room) & (ring.len <= room);
-    sized & (columns & (lent & inside))
-}
-
-// Whether a row is one of a stream whose rows stand from one place up to another.
-fn is_row(from: usize, to: usize, row: u64) -> bool
-    ensures { result ≡ ltb row (to - from) }
-{
-    if to < from {
-        return false;
+impl Lens {
+    // Whether each size is kept to: the paper's, and those of the columns to one another and to the ring.
+    #[tactic(auto, unfolding(crate::specs::Right::measured))]
+    fn is_measured(self, streams: usize, chroms: usize, ring: Ring) -> bool
+        ensures { result ≡ measured self streams chroms ring }
+    {
+        let room = ring.room;
+        let fixed = Settings {
+            streams,
+            chroms,
+            room,
+        };
+        let columns = self.start == self.chrom && self.stop == self.chrom && self.lengths == chroms;
+        let lent = self.queue == room && room <= self.answers;
+        let inside = ring.head < room && ring.len <= room;
+        fixed.is_sized() && columns && lent && inside
     }
-    row < measures::number(to - from)
 }
 
-// Whether a head names a row of its stream, or its stream has ended.
-fn head_named(mark: u64, from: usize, to: usize, row: u64) -> bool
-    ensures { result ≡ is_ended mark || ltb row (to - from) }
-{
-    if least::has_ended(mark) {
-        return true;
+impl Streams<'_> {
+    // Whether a row is one of stream k's.
+    fn is_row(self, k: usize, row: u64) -> bool
+        requires { k < 8 }
+        ensures { result ≡ ltb row (get_or self.entry.to.now k 0 - get_or self.entry.from.now k 0) }
+    {
+        row < self.to[k].saturating_sub(self.from[k]) as u64
     }
-    is_row(from, to, row)
-}
 
-// Whether each head of a stream that has not ended names a row of its stream.
-fn heads_named<'a>(
-    streams: usize,
-    ended: &'a [u64; 8],
-    row: &'a [u64; 8],
-    from: &'a [usize; 8],
-    to: &'a [usize; 8],
-) -> bool
-    requires { streams ≤ 8 }
-    ensures { result ≡ heads_named streams ended.now row.now from.now to.now }
-{
-    let mut k: usize = 0;
-    while k < streams {
-        if !head_named(ended[k], from[k], to[k], row[k]) {
-            return false;
+    // Whether there is such a stream, and such a row of it.
+    #[tactic(auto, unfolding(crate::specs::Right::named))]
+    fn is_named(self, stream: Stream, row: u64) -> bool
+        requires { self.count ≤ 8 }
+        ensures { result ≡ named self.entry.count self.entry.from.now self.entry.to.now stream.0 row }
+    {
+        stream.0 < self.count as u64 && self.is_row(stream.0 as usize, row)
+    }
+
+    // Whether stream k's head names a row of it, or the stream has ended.
+    fn is_head_named(self, k: usize) -> bool
+        requires { k < 8 }
+        ensures { result ≡ is_ended (get_or self.entry.ended.now k 0) || ltb (get_or self.entry.row.now k 0)
+            (get_or self.entry.to.now k 0 - get_or self.entry.from.now k 0) }
+    {
+        least::has_ended(self.ended[k]) || self.is_row(k, self.row[k])
+    }
+
+    // Whether each head of a stream that has not ended names a row of its stream.
+    fn heads_named(self) -> bool
+        requires { self.count ≤ 8 }
+        ensures { result ≡ heads_named self.entry.count self.entry.ended.now self.entry.row.now self.entry.from.now self.entry.to.now }
+    {
+        for k in 0..self.count {
+            if !self.is_head_named(k) {
+                return false;
+            }
         }
-        k += 1;
+        true
     }
-    true
-}
 
-// Whether there is such a stream, and such a row of it.
-fn slot_named<'a>(
-    streams: usize,
-    from: &'a [usize; 8],
-    to: &'a [usize; 8],
-    stream: u64,
-    row: u64,
-) -> bool
-    requires { streams ≤ 8 }
-    ensures { result ≡ named streams from.now to.now stream row }
-{
-    if measures::number(streams) <= stream {
-        return false;
-    }
-    let k = measures::place_in(stream);
-    is_row(from[k], to[k], row)
-}
-
-// Whether each record that waits names a stream and a row of it.
-fn slots_named<'a>(
-    ring: Ring,
-    streams: usize,
-    from: &'a [usize; 8],
-    to: &'a [usize; 8],
-    queue: &[[u64; 4]],
-) -> bool
-    requires { Fair ring queue.now × (streams ≤ 8) }
-    ensures { result ≡ slots_named streams from.now to.now ring queue.now }
-{
-    let head = ring.head;
-    let len = ring.len;
-    let room = ring.room;
-    let mut k: usize = 0;
-    while k < len {
-        let at = queue::place_of(head, room, k);
-        if !slot_named(streams, from, to, queue[at][0], queue[at][1]) {
-            return false;
+    // Whether each record that waits names a stream and a row of it.
+    fn slots_named(self, ring: Ring, queue: &[[u64; 4]]) -> bool
+        requires { Fair ring queue.now × (self.count ≤ 8) }
+        ensures { result ≡ slots_named self.entry.count self.entry.from.now self.entry.to.now ring queue.now }
+    {
+        for k in 0..ring.len {
+            let slot = ring.slot(queue, k);
+            if !self.is_named(slot.stream, slot.row) {
+                return false;
+            }
         }
-        k += 1;
+        true
     }
-    true
-}
-
-// Whether a base is not before another, by chromosome, start and stop.
-fn is_ordered(p: Base, b: Base) -> bool
-    ensures { result ≡ not_before p b }
-{
-    let last = p.chrom;
-    let here = b.chrom;
-    if last.0 < here.0 {
-        return true;
-    }
-    if here.0 < last.0 {
-        return false;
-    }
-    if p.start < b.start {
-        return true;
-    }
-    if b.start < p.start {
-        return false;
-    }
-    p.stop <= b.stop
 }
 
 // Whether a base is in order behind the last accepted one.
@@ -156,57 +114,55 @@ fn follows(stage: Stage, b: Base) -> bool
 {
     match stage {
         Stage::Fresh => true,
-        Stage::After(p) => is_ordered(p, b),
+        Stage::After(last) => last <= b,
         Stage::Over(_) => true,
     }
 }
 
 // 4, 6, 3, 5, in this order.
-pub fn judge(lengths: &[u64], stage: Stage, b: Base) -> Gate
+pub fn judge(lengths: &[u64], stage: Stage, b: Base) -> Result<(), Refusal>
     ensures { result ≡ judged_of (judge (lengths_of lengths.now) (last_of stage) b) }
 {
-    let c = b.chrom;
-    if measures::number(lengths.len()) <= c.0 {
-        return Gate::Shut(Refusal::Unlisted);
-    }
-    let at = measures::place_in(c.0);
-    let length = lengths[at];
+    let Some(&length) = lengths.get(b.chrom.0 as usize) else {
+        return Err(Refusal::Unlisted);
+    };
     if b.stop < b.start {
-        return Gate::Shut(Refusal::Reversed);
+        return Err(Refusal::Reversed);
     }
     if length < b.stop {
-        return Gate::Shut(Refusal::Beyond);
+        return Err(Refusal::Beyond);
     }
     if !follows(stage, b) {
-        return Gate::Shut(Refusal::Unordered);
+        return Err(Refusal::Unordered);
     }
-    Gate::Open
+    Ok(())
 }
 
-// Whether 1 is not due: of the run's numbers and arrays, the lengths of all that is lent, and the queue's memory.
-pub fn is_right<'a>(
-    streams: usize,
+// Whether 1 is not due: of the streams of a run, its number of chromosomes and its ring, the lengths of all that is lent, and the queue's memory.
+pub fn is_right(
+    streams: Streams<'_>,
     chroms: usize,
     ring: Ring,
-    ended: &'a [u64; 8],
-    row: &'a [u64; 8],
-    next: &'a [usize; 8],
-    from: &'a [usize; 8],
-    to: &'a [usize; 8],
     l: Lens,
     queue: &[[u64; 4]],
 ) -> bool
     requires { length queue.now ≡ l.queue }
-    ensures { result ≡ right l streams chroms ring ended.now row.now next.now from.now to.now queue.now }
+    ensures { let s = streams.entry in
+        result ≡ right l s.count chroms ring s.ended.now s.row.now s.next.now s.from.now s.to.now queue.now }
 {
-    if !is_measured(streams, chroms, ring, l) {
+    if !l.is_measured(streams.count, chroms, ring) {
         return false;
     }
-    if !heads::is_placed(streams, next, from, to, l.chrom, l.start, l.stop) {
+    if !heads::is_placed(
+        streams.count,
+        streams.next,
+        streams.from,
+        streams.to,
+        l.chrom,
+        l.start,
+        l.stop,
+    ) {
         return false;
     }
-    if !heads_named(streams, ended, row, from, to) {
-        return false;
-    }
-    slots_named(ring, streams, from, to, queue)
+    streams.heads_named() && streams.slots_named(ring, queue)
 }

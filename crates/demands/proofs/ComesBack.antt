@@ -234,6 +234,10 @@ comes_back s lengths r b l g l' gives right shaped answered =
     goes_on (refused x) z p = absurd z
     goes_on (ended e) z p = absurd z
 
+-- and the run is of the streams, and of the sizes, that it was of
+pub comes_sized : (s : Cols) (lengths : List ℕ) (r : Run) (b : Base) (l : Lent) (g : Given) (l' : Lent) → Gives s lengths r b l g l' → right_of s lengths r l ≡ true → Shaped (heads_of r) → SizedAs r g.run
+comes_sized s lengths r b l g l' gives right shaped = (returns s lengths r b l g l' gives (right_blameless s lengths r l right) (λ z. shaped)).sized
+
 -- ---- every sequence of calls
 
 -- one call, and then others

@@ -11,7 +11,7 @@ use Rattle.basics.proofs.ListLaws.{pairs_same}
 use Rattle.rules.specs.declared.Base.{Base}
 use Rattle.rules.specs.declared.End.TheVariants.{NoRoom}
 use Rattle.rules.specs.declared.Refusal.TheVariants.{Sizes}
-use Rattle.rules.specs.declared.Offer.TheVariants.{Nothing}
+use Rattle.std.specs.Prelude.{None}
 use Rattle.rules.specs.Numbers.{number_of}
 use Rattle.rules.specs.Rows.{Record, number}
 use Rattle.rules.specs.Overlap.{overlaps}
@@ -85,12 +85,12 @@ calls_larger p q lengths bs os us k m same h =
 -- Every base given is then answered or refused as in the full run, and every base left out has no record there.": two runs of one job; the places are those
 -- that the calls offered
 pub calls_skips : (p : Plan) (lengths : List ℕ) (l : List (Mark Base)) (os us : List Came) → Runs p lengths (given l) os → Runs p lengths (every l) us → ValidStreams (job_of p lengths)
-    → ((at : Spot (every l)) → Accepted (job_of p lengths) at) → lawful Nothing l (map (λ (o : Came). offer_in o.answer) os) ≡ true
+    → ((at : Spot (every l)) → Accepted (job_of p lengths) at) → lawful None l (map (λ (o : Came). offer_in o.answer) os) ≡ true
     → Pairs Same os (heard l us) × All (λ c. filter (overlaps c) (merged_of (job_of p lengths)) ≡ []) (missed l)
 calls_skips p lengths l os us k m ok fit legal =
     let few = run_answers p lengths (given l) os k in
     let all = run_answers p lengths (every l) us m in
-    let z = demand3.skips (job_of p lengths) ok l fit (ap (lawful Nothing l) (sym (shown_offers few)) ∙ legal) in (
+    let z = demand3.skips (job_of p lengths) ok l fit (ap (lawful None l) (sym (shown_offers few)) ∙ legal) in (
       pairs_both {R = λ r s. r ≡ s} (λ x y o u e a b. shown_same a (subst (λ (t : Reply). Shows t u) (sym e) b)) (pairs_same (λ r. refl) (answers (job_of p lengths) (given l))) few
           (subst (λ (t : List Reply). Pairs Shows t (heard l us)) (sym z.0) (heard_shown l all)),
       z.1,

@@ -8,7 +8,8 @@ use Rattle.rules.specs.declared.Stage.{Stage}
 use Rattle.rules.specs.declared.Stage.TheVariants.{Fresh, After, Over}
 use Rattle.heads.specs.declared.Move.{Move}
 use Rattle.heads.specs.declared.Move.TheVariants as move
-use Rattle.heads.specs.declared.Then.TheVariants as then
+use Rattle.std.specs.Prelude.{Result, Ok, Err, Some, None}
+use Rattle.rules.specs.declared.End.{End}
 use Rattle.heads.specs.View.{Cols, Heads, rests_of}
 use Rattle.heads.specs.Move.{moved, turn_of}
 use Rattle.heads.proofs.RestLaws.{moved_placed, moved_shaped}
@@ -44,11 +45,11 @@ module _ (s : Cols) where
         by_move (turn_of s n b h)
         (record { placed = moved_placed s h w.shaped w.placed.few n b w.placed; shaped = moved_shaped h (turn_of s n b h) w.shaped })
       where
-        by_move : (m : Move) → Turning s (moved h m) → Ranged s h (moved h m)
-        by_move (move.Stay x) v = ranged_same h v
-        by_move (move.Wrong e) v = ranged_same h v
-        by_move (move.Takes t then.Ends) v = record { turning = v; streams = refl; from = refl; to = refl }
-        by_move (move.Takes t (then.Goes x)) v = record { turning = v; streams = refl; from = refl; to = refl }
+        by_move : (m : Result Move End) → Turning s (moved h m) → Ranged s h (moved h m)
+        by_move (Ok (move.Stay x)) v = ranged_same h v
+        by_move (Err e) v = ranged_same h v
+        by_move (Ok (move.Takes t None)) v = record { turning = v; streams = refl; from = refl; to = refl }
+        by_move (Ok (move.Takes t (Some x))) v = record { turning = v; streams = refl; from = refl; to = refl }
 
     turns_ranged : (k : ℕ) (h : Heads) → Turning s h → Ranged s h (after_turns s n b k h)
     unfolding after_turns

@@ -2,8 +2,8 @@
 use Rattle.std.specs.Prelude.{◌≡◌, true, List, [], ◌∷◌, ◌++◌, map, ℕ, ◌≤◌, length, get_or, take, drop}
 use Rattle.rules.specs.declared.Base.{Base}
 use Rattle.rules.specs.declared.Refusal.TheVariants.{Sizes}
-use Rattle.rules.specs.declared.Offer.{Offer}
-use Rattle.rules.specs.declared.Offer.TheVariants.{Nothing}
+use Rattle.rules.specs.Offered.{Offer}
+use Rattle.std.specs.Prelude.{None}
 use Rattle.rules.specs.declared.Answer.{Answer}
 use Rattle.rules.specs.declared.Answer.TheVariants as answer
 use Rattle.rules.specs.Rows.{Record}
@@ -78,8 +78,8 @@ count_in (answer.Ended e) = 0
 
 abbrev pub offer_in : Answer → Offer
 offer_in (answer.Found n o) = o
-offer_in (answer.Refused x) = Nothing
-offer_in (answer.Ended e) = Nothing
+offer_in (answer.Refused x) = None
+offer_in (answer.Ended e) = None
 
 -- the first n answer rows, n being the returned count
 abbrev pub rows_in : Came → List (List ℕ)
@@ -92,7 +92,7 @@ all_rows (o ∷ os) = rows_in o ++ all_rows os
 
 -- what the last of several calls offered
 abbrev pub last_offer : List Came → Offer
-last_offer [] = Nothing
+last_offer [] = None
 last_offer (o ∷ []) = offer_in o.answer
 last_offer (o ∷ u ∷ os) = last_offer (u ∷ os)
 

@@ -12,6 +12,8 @@ use Rattle.rules.specs.Streams.{ahead}
 use Rattle.least.specs.Fours.{left_at}
 use Rattle.heads.specs.declared.Next.{Next}
 use Rattle.heads.specs.declared.Move.{Move}
+use Rattle.std.specs.Prelude.{Result}
+use Rattle.rules.specs.declared.End.{End}
 use Rattle.heads.specs.View.{Cols, column_in, heads_by, rest_at, rests_of}
 use Rattle.heads.specs.Move.{move_of, turn_of, behind_by, goes_at}
 
@@ -34,7 +36,7 @@ module _ (s : Cols) (q : List (List ℕ)) (e next from to : List ℕ) (n : ℕ) 
       (λ k a b. rw (column_get 0 q k, column_get 1 q k, column_get 2 q k, column_get 3 q k))
 
   -- what the choice over the arrays comes to is the turn of the heads
-  pub turned : (m : Move) (N : ℕ) (b : Base) → m ≡ move_of N b next (pick ahead (build (left_at q e (behind_by s next from to)) n 0)) → m ≡ turn_of s N b (heads_by q e next from to n)
+  pub turned : (m : Result Move End) (N : ℕ) (b : Base) → m ≡ move_of N b next (pick ahead (build (left_at q e (behind_by s next from to)) n 0)) → m ≡ turn_of s N b (heads_by q e next from to n)
   turned m N b f = f ∙ ap (λ (l : List (List Record)). move_of N b next (pick ahead l)) shown
 
 -- the head of stream k replaced

@@ -13,8 +13,7 @@ use Rattle.basics.proofs.BuildLaws.{build_front, build_none, build_same, set_rai
 use Rattle.rules.specs.declared.End.{End}
 use Rattle.rules.specs.Rows.{fault}
 use Rattle.heads.specs.declared.Next.{Next}
-use Rattle.heads.specs.declared.Check.{Check}
-use Rattle.heads.specs.declared.Check.TheVariants as the-check
+use Rattle.std.specs.Prelude.{⊤, Result, Ok, Err}
 use Rattle.rules.specs.Streams.{else, check}
 use Rattle.rules.specs.Call.{loading}
 use Rattle.heads.specs.View.{Cols, Heads, row_at, behind_at, rest_at, rests_of, fresh_of}
@@ -24,12 +23,12 @@ use Rattle.heads.proofs.CheckLaws.{check_fine, check_wrong}
 
 module _ (s : Cols) (n : ℕ) (h : Heads) (k : ℕ) where
   -- no row
-  pub begun_ends : get_or h.to k 0 ≤ get_or h.next k 0 → BeginsAs s n h k the-check.Fine (ends_at h k)
+  pub begun_ends : get_or h.to k 0 ≤ get_or h.next k 0 → BeginsAs s n h k (Ok tt) (ends_at h k)
   unfolding load_one
   begun_ends e = record { check = rw (le-leb (get_or h.to k 0) (get_or h.next k 0) e); heads = λ z. rw (le-leb (get_or h.to k 0) (get_or h.next k 0) e) }
 
   -- a row: `w` is what was found wrong with it
-  module _ (e : get_or h.next k 0 < get_or h.to k 0) (x : Next) (w : Check) (is : x ≡ first_of s h k) (found : w ≡ check_of (fault n none (next_record (record { 0 = k }) x))) where
+  module _ (e : get_or h.next k 0 < get_or h.to k 0) (x : Next) (w : Result ⊤ End) (is : x ≡ first_of s h k) (found : w ≡ check_of (fault n none (next_record (record { 0 = k }) x))) where
     seen : w ≡ check_of (fault n none (row_at s (get_or h.from k 0) k (get_or h.next k 0)))
     seen = found ∙ ap (λ (y : Next). check_of (fault n none (next_record (record { 0 = k }) y))) is
 
@@ -37,12 +36,12 @@ module _ (s : Cols) (n : ℕ) (h : Heads) (k : ℕ) where
     unfolding load_one
     begun_by_lem g f = record { check = rw (lt-leb (get_or h.to k 0) (get_or h.next k 0) e) seen; heads = λ z. rw (lt-leb (get_or h.to k 0) (get_or h.next k 0) e) (f (rw (lt-leb (get_or h.to k 0) (get_or h.next k 0) e) at z)) }
 
-    pub begun_wrong : (y : End) → w ≡ the-check.Wrong y → BeginsAs s n h k (the-check.Wrong y) h
+    pub begun_wrong : (y : End) → w ≡ Err y → BeginsAs s n h k (Err y) h
     begun_wrong y q =
         let z : fault n none (row_at s (get_or h.from k 0) k (get_or h.next k 0)) ≡ some y = check_wrong (fault n none (row_at s (get_or h.from k 0) k (get_or h.next k 0))) y (sym seen ∙ q) in
         rw (← q) (begun_by_lem h (λ v. let u : ◌≡◌ {A = ℕ} 0 1 = cc in absurd (omega arith)))
 
-    pub begun_goes : w ≡ the-check.Fine → BeginsAs s n h k the-check.Fine (goes_at h k x)
+    pub begun_goes : w ≡ Ok tt → BeginsAs s n h k (Ok tt) (goes_at h k x)
     begun_goes q = rw (← q) (begun_by_lem (goes_at h k x) (λ v. ap (goes_at h k) is))
 
 -- what is wrong with the first row is what its check says
@@ -171,21 +170,21 @@ module _ (s : Cols) (h : Heads) (in8 : Shaped h) (p : Placed s h.streams h.next 
         rw w (rw (build_front (behind_at s h) h.streams k b) at l.same)
 
     -- w is what was found at stream k, and g' the heads after it
-    module _ (g : Heads) (k : ℕ) (l : Loading s n h g k) (b : k < h.streams) (w : Check) (g' : Heads) (x : BeginsAs s n g k w g') where
-      pub load_stops : (e : End) (m : Heads) → w ≡ the-check.Wrong e → LoadsAs s n h (the-check.Wrong e) m
+    module _ (g : Heads) (k : ℕ) (l : Loading s n h g k) (b : k < h.streams) (w : Result ⊤ End) (g' : Heads) (x : BeginsAs s n g k w g') where
+      pub load_stops : (e : End) (m : Heads) → w ≡ Err e → LoadsAs s n h (Err e) m
       load_stops e m q =
           let z : wrong_first s n g k ≡ some e = check_wrong (wrong_first s n g k) e (sym x.check ∙ q) in
           let y : some e ≡ loading n (fresh_of s h) = rw z at (turn g k l b) in
           record { check = ap check_of y; heads = λ v. let u : ◌≡◌ {A = ℕ} 0 1 = cc in absurd (omega arith) }
 
-      pub load_goes : w ≡ the-check.Fine → Loading s n h g' (k + 1)
+      pub load_goes : w ≡ Ok tt → Loading s n h g' (k + 1)
       unfolding load_to
       load_goes q =
           let z : wrong_first s n g k ≡ none = check_fine (wrong_first s n g k) (sym x.check ∙ q) in
           let one_on : k + 1 ≡ suc k = omega arith in
           record { is = x.heads z ∙ rw (l.is, one_on); within = omega arith; same = rw z at (turn g k l b) }
 
-    pub load_ends : (g : Heads) (k : ℕ) → Loading s n h g k → h.streams ≤ k → LoadsAs s n h the-check.Fine g
+    pub load_ends : (g : Heads) (k : ℕ) → Loading s n h g k → h.streams ≤ k → LoadsAs s n h (Ok tt) g
     unfolding build
     load_ends g k l b =
         let z : h.streams - k ≡ 0 = omega arith in
@@ -194,5 +193,5 @@ module _ (s : Cols) (h : Heads) (in8 : Shaped h) (p : Placed s h.streams h.next 
         record { check = ap check_of none-wrong; heads = λ v. l.is ∙ ap (load_to s h) y }
 
     -- the heads that were loaded with nothing wrong
-    pub loaded_upto : (w : Check) (g : Heads) → LoadsAs s n h w g → w ≡ the-check.Fine → Upto s h g h.streams
+    pub loaded_upto : (w : Result ⊤ End) (g : Heads) → LoadsAs s n h w g → w ≡ Ok tt → Upto s h g h.streams
     loaded_upto w g x q = rw (x.heads (check_fine (loading n (fresh_of s h)) (sym x.check ∙ q))) (upto h.streams (omega arith))

@@ -18,15 +18,13 @@ use Rattle.rules.specs.Overlap.{taken, live}
 use Rattle.theory.proofs.MergeLaws.{Took, picked}
 use Rattle.least.specs.declared.Best.{Best}
 use Rattle.heads.specs.declared.Taken.{Taken}
-use Rattle.heads.specs.declared.Then.TheVariants as then
 use Rattle.heads.specs.declared.Move.{Move}
 use Rattle.heads.specs.declared.Move.TheVariants as move
 use Rattle.heads.specs.View.{Cols, row_at, rows_from}
 use Rattle.least.specs.Fours.{record_from, unless_ended, left_at, is_ended}
 use Rattle.least.specs.Least.{head_of, best_of, least_in}
 use Rattle.heads.specs.declared.Next.{Next}
-use Rattle.heads.specs.declared.Check.{Check}
-use Rattle.heads.specs.declared.Check.TheVariants as check
+use Rattle.std.specs.Prelude.{⊤, Result, Ok, Err, Some, None}
 use Rattle.heads.specs.Move.{best_record, check_of, taken_of, next_of, takes, move_of, behind_by}
 use Rattle.heads.proofs.CheckLaws.{check_fine, check_wrong}
 use Rattle.least.proofs.LeastLaws.{own_number, least_pick}
@@ -73,13 +71,16 @@ module _ (q : List (List ℕ)) (ended : List ℕ) (behind : ℕ → List Record)
         fewer = w.fewer;
       }
 
-  pub chosen : (h : Best) → h ≡ least_in q ended n → (h.stream.0 ≡ 8 → ⊥) → Chosen h
-  chosen h e f = go (pick ahead ss) refl
+  pub chosen : (h : Best) → Some h ≡ least_in q ended n → Chosen h
+  chosen h e = go (pick ahead ss) refl
     where
       go : (o : Pick Record) → pick ahead ss ≡ o → Chosen h
-      go none z = absurd (f (ap (λ (b : Best). b.stream.0) (e ∙ least_pick q ended behind n few ∙ ap best_of z)))
+      go none z =
+          let is : Some h ≡ None = e ∙ least_pick q ended behind n few ∙ ap best_of z in
+          let w : ◌≡◌ {A = ℕ} 0 1 = cc in absurd (omega arith)
       go (one a rest ts) z =
-          let is : h ≡ head_of a = e ∙ least_pick q ended behind n few ∙ ap best_of z in
+          let given : Some h ≡ Some (head_of a) = e ∙ least_pick q ended behind n few ∙ ap best_of z in
+          let is : h ≡ head_of a = cc in
           let w : Standing a rest ts = standing a rest ts z in
           let same : best_record h ≡ a = ap best_record is in
           let place : h.stream.0 ≡ a.stream.0 = ap (λ (b : Best). b.stream.0) is in
@@ -90,18 +91,18 @@ module _ (q : List (List ℕ)) (ended : List ℕ) (behind : ℕ → List Record)
           }
 
   -- no head stays; nor is a head taken that is not to be
-  pub stays_none : (N : ℕ) (b : Base) (nexts : List ℕ) (h : Best) → h ≡ least_in q ended n → h.stream.0 ≡ 8 → move_of N b nexts (pick ahead ss) ≡ move.Stay h
+  pub stays_none : (N : ℕ) (b : Base) (nexts : List ℕ) → None ≡ least_in q ended n → move_of N b nexts (pick ahead ss) ≡ Ok (move.Stay None)
   unfolding move_of
-  stays_none N b nexts h e f = go (pick ahead ss) refl
+  stays_none N b nexts e = go (pick ahead ss) refl
     where
-      go : (o : Pick Record) → pick ahead ss ≡ o → move_of N b nexts o ≡ move.Stay h
-      go none z = ap move.Stay (sym (e ∙ least_pick q ended behind n few ∙ ap best_of z))
+      go : (o : Pick Record) → pick ahead ss ≡ o → move_of N b nexts o ≡ Ok (move.Stay None)
+      go none z = refl
       go (one a rest ts) z =
-          let is : h ≡ head_of a = e ∙ least_pick q ended behind n few ∙ ap best_of z in
-          absurd (omega (arith, ap (λ (b : Best). b.stream.0) is, (standing a rest ts z).place))
+          let is : None ≡ Some (head_of a) = e ∙ least_pick q ended behind n few ∙ ap best_of z in
+          let w : ◌≡◌ {A = ℕ} 0 1 = cc in absurd (omega arith)
 
   module _ (N : ℕ) (b : Base) (nexts : List ℕ) (h : Best) (c : Chosen h) where
-    pub stays_untaken : taken b (best_record h) ≡ false → move_of N b nexts (pick ahead ss) ≡ move.Stay h
+    pub stays_untaken : taken b (best_record h) ≡ false → move_of N b nexts (pick ahead ss) ≡ Ok (move.Stay (Some h))
     unfolding move_of
     stays_untaken e = rw (c.is, e)
 
@@ -117,7 +118,7 @@ takes_first t place (Option.some e) x l = refl
 
 -- the rows behind a head: none, or the one at the next place
 module _ (N : ℕ) (s : Cols) (from to k at : ℕ) (t : Taken) (a : Record) where
-  pub takes_last : to ≤ at → takes t (at + 1) (next N a (rows_from s from to k at)) (rows_from s from to k at) ≡ move.Takes t then.Ends
+  pub takes_last : to ≤ at → takes t (at + 1) (next N a (rows_from s from to k at)) (rows_from s from to k at) ≡ Ok (move.Takes t None)
   takes_last h = rw (build_none (row_at s from k) to at h)
 
   pub takes_more : at < to → takes t (at + 1) (next N a (rows_from s from to k at)) (rows_from s from to k at)
@@ -125,10 +126,10 @@ module _ (N : ℕ) (s : Cols) (from to k at : ℕ) (t : Taken) (a : Record) wher
   takes_more h = rw (build_front (row_at s from k) to at h) (takes_first t (at + 1) (fault N (Option.some a.it) (row_at s from k at)) (row_at s from k at) (build (row_at s from k) (to - (at + 1)) (at + 1)))
 
 -- the row that was read, and what was found wrong with it
-pub followed_wrong : (t : Taken) (place : ℕ) (o : Option End) (x : Record) {w : Check} {e : End} → w ≡ check_of o → w ≡ check.Wrong e → move.Wrong e ≡ takes t place o (x ∷ [])
+pub followed_wrong : (t : Taken) (place : ℕ) (o : Option End) (x : Record) {w : Result ⊤ End} {e : End} → w ≡ check_of o → w ≡ Err e → Err e ≡ takes t place o (x ∷ [])
 followed_wrong t place o x {e} p q = rw (check_wrong o e (sym p ∙ q))
 
-pub followed_fine : (t : Taken) (place : ℕ) (o : Option End) (x : Record) {w : Check} {y : Next} → w ≡ check_of o → w ≡ check.Fine → y ≡ next_of x place → move.Takes t (then.Goes y) ≡ takes t place o (x ∷ [])
+pub followed_fine : (t : Taken) (place : ℕ) (o : Option End) (x : Record) {w : Result ⊤ End} {y : Next} → w ≡ check_of o → w ≡ Ok tt → y ≡ next_of x place → Ok (move.Takes t (Some y)) ≡ takes t place o (x ∷ [])
 followed_fine t place o x p q r = rw (check_fine o (sym p ∙ q), r)
 
 -- the turn of a head that is taken, from the rows behind the heads
@@ -137,18 +138,18 @@ module _ (q : List (List ℕ)) (ended : List ℕ) (s : Cols) (nexts from to : Li
   abbrev pub head_taken : Taken
   head_taken = record { stream = h.stream; live = v; row = h.row; start = h.start; stop = h.stop }
 
-  abbrev answer : Move
+  abbrev answer : Result Move End
   answer = move_of N b nexts (pick ahead (build (left_at q ended (behind_by s nexts from to)) n 0))
 
   turns : answer ≡ takes head_taken (get_or nexts k 0 + 1) (next N (best_record h) (behind_by s nexts from to k)) (behind_by s nexts from to k)
   turns = takes_chosen q ended (behind_by s nexts from to) n few N b nexts h c t ∙ rw (lives, place)
 
-  pub decided_ends : get_or to k 0 ≤ get_or nexts k 0 → move.Takes head_taken then.Ends ≡ answer
+  pub decided_ends : get_or to k 0 ≤ get_or nexts k 0 → Ok (move.Takes head_taken None) ≡ answer
   decided_ends e = sym (turns ∙ takes_last N s (get_or from k 0) (get_or to k 0) k (get_or nexts k 0) head_taken (best_record h) e)
 
   -- from the row that stands at the next place, as one of stream i
-  abbrev by_row : ℕ → Move
+  abbrev by_row : ℕ → Result Move End
   by_row i = takes head_taken (get_or nexts k 0 + 1) (fault N (Option.some (best_record h).it) (row_at s (get_or from k 0) i (get_or nexts k 0))) (row_at s (get_or from k 0) i (get_or nexts k 0) ∷ [])
 
-  pub decided_follows : (r : Move) → get_or nexts k 0 < get_or to k 0 → r ≡ by_row h.stream.0 → r ≡ answer
+  pub decided_follows : (r : Result Move End) → get_or nexts k 0 < get_or to k 0 → r ≡ by_row h.stream.0 → r ≡ answer
   decided_follows r e z = z ∙ ap by_row (sym place) ∙ sym (turns ∙ takes_more N s (get_or from k 0) (get_or to k 0) k (get_or nexts k 0) head_taken (best_record h) e)

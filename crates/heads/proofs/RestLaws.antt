@@ -25,8 +25,8 @@ use Rattle.heads.specs.View.{Heads}
 use Rattle.least.specs.declared.Best.{Best}
 use Rattle.heads.specs.declared.Taken.{Taken}
 use Rattle.heads.specs.declared.Next.{Next}
-use Rattle.heads.specs.declared.Then.{Then}
-use Rattle.heads.specs.declared.Then.TheVariants as then
+use Rattle.std.specs.Prelude.{⊤, Result, Ok, Err, Some, None}
+use Rattle.std.specs.Prelude as std
 use Rattle.heads.specs.declared.Move.{Move}
 use Rattle.heads.specs.declared.Move.TheVariants as move
 use Rattle.heads.specs.View.{Cols, row_at, rows_from, four_at, fours_of, behind_at, head_at, rest_at, rests_of}
@@ -93,16 +93,16 @@ queued N b full Q queue t ss =
     (pull ahead (next N) full (taken b) (live b) Q ss queue)
 
 -- what a turn does to a pull
-abbrev pub on_move : Cols → Heads → ℕ → Base → End → ℕ → List Record → Move → Pull Record End
-on_move s h N b full Q queue (move.Stay x) = paused (rests_of s h) queue
-on_move s h N b full Q queue (move.Wrong e) = ends e
-on_move s h N b full Q queue (move.Takes t a) = queued N b full Q queue t (rests_of s (turn_at h t.stream.0 a))
+abbrev pub on_move : Cols → Heads → ℕ → Base → End → ℕ → List Record → Result Move End → Pull Record End
+on_move s h N b full Q queue (Ok (move.Stay x)) = paused (rests_of s h) queue
+on_move s h N b full Q queue (Err e) = ends e
+on_move s h N b full Q queue (Ok (move.Takes t a)) = queued N b full Q queue t (rests_of s (turn_at h t.stream.0 a))
 
 -- a turn that takes a head leaves one row less
-abbrev pub Shorter : Cols → Heads → Move → Type 0
-Shorter s h (move.Stay x) = Unit {0}
-Shorter s h (move.Wrong e) = Unit {0}
-Shorter s h (move.Takes t a) = total (rests_of s h) ≡ suc (total (rests_of s (turn_at h t.stream.0 a)))
+abbrev pub Shorter : Cols → Heads → Result Move End → Type 0
+Shorter s h (Ok (move.Stay x)) = Unit {0}
+Shorter s h (Err e) = Unit {0}
+Shorter s h (Ok (move.Takes t a)) = total (rests_of s h) ≡ suc (total (rests_of s (turn_at h t.stream.0 a)))
 
 -- a live record lies on the base's chromosome
 pub taken_same : (b : Base) (a : Record) → live b a ≡ true → taken_record b (taken_of b a) ≡ a
@@ -111,7 +111,7 @@ taken_same b a e =
     ap (λ (c : ℕ). record_in a.stream (record { 0 = c }) a.it.start a.it.stop a.row) (sym on)
 
 module _ (s : Cols) (h : Heads) (in8 : Shaped h) (few : h.streams ≤ 8) (N : ℕ) (b : Base) where
-  abbrev pub move_here : Move
+  abbrev pub move_here : Result Move End
   move_here = move_of N b h.next (pick ahead (rests_of s h))
 
   -- what the picked record leaves, as the heads have it
@@ -177,7 +177,7 @@ module _ (s : Cols) (h : Heads) (in8 : Shaped h) (few : h.streams ≤ 8) (N : �
         go (one a rest ts) z = case (taken b a)
           where
             case : (t : Bool) → cond t (unless_wrong (next N a rest) (cond (live b a) (cond (leb Q (length queue)) (ends full) (pull ahead (next N) full (taken b) (live b) Q ts (queue ++ a ∷ []))) (pull ahead (next N) full (taken b) (live b) Q ts queue))) (paused (rests_of s h) queue)
-                ≡ on_move s h N b full Q queue (cond t (takes (taken_of b a) (get_or h.next a.stream.0 0 + 1) (next N a rest) rest) (move.Stay (head_of a)))
+                ≡ on_move s h N b full Q queue (cond t (takes (taken_of b a) (get_or h.next a.stream.0 0 + 1) (next N a rest) rest) (Ok (move.Stay (Some (head_of a)))))
             case true = took_move a rest ts (left_by a rest ts z) (next N a rest) rest refl
             case false = refl
 
@@ -190,7 +190,7 @@ module _ (s : Cols) (h : Heads) (in8 : Shaped h) (few : h.streams ≤ 8) (N : �
       go none z = tt
       go (one a rest ts) z = case (taken b a) (next N a rest) rest refl
         where
-          case : (t : Bool) (o : Option End) (k : List Record) → rest ≡ k → Shorter s h (cond t (takes (taken_of b a) (get_or h.next a.stream.0 0 + 1) o k) (move.Stay (head_of a)))
+          case : (t : Bool) (o : Option End) (k : List Record) → rest ≡ k → Shorter s h (cond t (takes (taken_of b a) (get_or h.next a.stream.0 0 + 1) o k) (Ok (move.Stay (Some (head_of a)))))
           case false o k q = tt
           case true (Option.some e) k q = tt
           case true Option.none [] q = (left_by a rest ts z).fewer ∙ ap (λ (l : List (List Record)). suc (total l)) (sym ((left_by a rest ts z).last q))
@@ -219,17 +219,17 @@ module _ (s : Cols) (h : Heads) (in8 : Shaped h) (few : h.streams ≤ 8) (N : �
       go none = p
       go (one a rest ts) = case (taken b a) (next N a rest) rest
         where
-          case : (t : Bool) (o : Option End) (k : List Record) → Fit (moved h (cond t (takes (taken_of b a) (get_or h.next a.stream.0 0 + 1) o k) (move.Stay (head_of a))))
+          case : (t : Bool) (o : Option End) (k : List Record) → Fit (moved h (cond t (takes (taken_of b a) (get_or h.next a.stream.0 0 + 1) o k) (Ok (move.Stay (Some (head_of a))))))
           case false o k = p
           case true (Option.some e) k = p
           case true Option.none [] = p
           case true Option.none (x ∷ l) = goes_placed a.stream.0 (next_of x (get_or h.next a.stream.0 0 + 1)) refl p
 
   -- a head that is taken is one of a stream
-  abbrev pub InPlace : Move → Type 0
-  InPlace (move.Stay x) = Unit {0}
-  InPlace (move.Wrong e) = Unit {0}
-  InPlace (move.Takes t a) = t.stream.0 < h.streams
+  abbrev pub InPlace : Result Move End → Type 0
+  InPlace (Ok (move.Stay x)) = Unit {0}
+  InPlace (Err e) = Unit {0}
+  InPlace (Ok (move.Takes t a)) = t.stream.0 < h.streams
 
   pub in_place : InPlace move_here
   unfolding move_of
@@ -239,31 +239,31 @@ module _ (s : Cols) (h : Heads) (in8 : Shaped h) (few : h.streams ≤ 8) (N : �
       go none z = tt
       go (one a rest ts) z = case (taken b a) (next N a rest) rest
         where
-          case : (t : Bool) (o : Option End) (k : List Record) → InPlace (cond t (takes (taken_of b a) (get_or h.next a.stream.0 0 + 1) o k) (move.Stay (head_of a)))
+          case : (t : Bool) (o : Option End) (k : List Record) → InPlace (cond t (takes (taken_of b a) (get_or h.next a.stream.0 0 + 1) o k) (Ok (move.Stay (Some (head_of a)))))
           case false o k = tt
           case true (Option.some e) k = tt
           case true Option.none [] = (stands a rest ts z).place
           case true Option.none (x ∷ l) = (stands a rest ts z).place
 
   -- a turn that takes nothing tells the head that the merge would take next
-  pub stayed : (x : Best) → move_here ≡ move.Stay x → x ≡ best_of (pick ahead (rests_of s h))
+  pub stayed : (x : std.Option Best) → move_here ≡ Ok (move.Stay x) → x ≡ best_of (pick ahead (rests_of s h))
   unfolding move_of
   stayed x = go (pick ahead (rests_of s h))
     where
-      go : (o : Pick Record) → move_of N b h.next o ≡ move.Stay x → x ≡ best_of o
+      go : (o : Pick Record) → move_of N b h.next o ≡ Ok (move.Stay x) → x ≡ best_of o
       go none e = cc
       go (one a rest ts) e = case (taken b a) (next N a rest) rest e
         where
-          case : (t : Bool) (o : Option End) (k : List Record) → cond t (takes (taken_of b a) (get_or h.next a.stream.0 0 + 1) o k) (move.Stay (head_of a)) ≡ move.Stay x → x ≡ head_of a
+          case : (t : Bool) (o : Option End) (k : List Record) → cond t (takes (taken_of b a) (get_or h.next a.stream.0 0 + 1) o k) (Ok (move.Stay (Some (head_of a)))) ≡ Ok (move.Stay x) → x ≡ Some (head_of a)
           case false o k z = cc
           case true (Option.some f) k z = let w : ◌≡◌ {A = ℕ} 0 1 = cc in absurd (omega arith)
           case true Option.none [] z = let w : ◌≡◌ {A = ℕ} 0 1 = cc in absurd (omega arith)
           case true Option.none (y ∷ l) z = let w : ◌≡◌ {A = ℕ} 0 1 = cc in absurd (omega arith)
 
 -- the arrays after a turn have their eight places
-pub turned_shaped : (h : Heads) (k : ℕ) (a : Then) → Shaped h → Shaped (turn_at h k a)
-turned_shaped h k then.Ends w = record { chrom = w.chrom; start = w.start; stop = w.stop; row = w.row; ended = length-set h.ended k 1 ∙ w.ended; next = w.next }
-turned_shaped h k (then.Goes x) w = record {
+pub turned_shaped : (h : Heads) (k : ℕ) (a : std.Option Next) → Shaped h → Shaped (turn_at h k a)
+turned_shaped h k None w = record { chrom = w.chrom; start = w.start; stop = w.stop; row = w.row; ended = length-set h.ended k 1 ∙ w.ended; next = w.next }
+turned_shaped h k (Some x) w = record {
   chrom = length-set h.chrom k x.chrom.0 ∙ w.chrom;
   start = length-set h.start k x.start ∙ w.start;
   stop = length-set h.stop k x.stop ∙ w.stop;
@@ -272,7 +272,7 @@ turned_shaped h k (then.Goes x) w = record {
   next = length-set h.next k x.next ∙ w.next;
 }
 
-pub moved_shaped : (h : Heads) (m : Move) → Shaped h → Shaped (moved h m)
-moved_shaped h (move.Stay x) w = w
-moved_shaped h (move.Wrong e) w = w
-moved_shaped h (move.Takes t a) w = turned_shaped h t.stream.0 a w
+pub moved_shaped : (h : Heads) (m : Result Move End) → Shaped h → Shaped (moved h m)
+moved_shaped h (Ok (move.Stay x)) w = w
+moved_shaped h (Err e) w = w
+moved_shaped h (Ok (move.Takes t a)) w = turned_shaped h t.stream.0 a w

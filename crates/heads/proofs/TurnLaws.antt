@@ -16,7 +16,9 @@ use Rattle.rules.specs.Overlap.{taken, live}
 use Rattle.heads.specs.View.{Heads}
 use Rattle.least.specs.declared.Best.{Best}
 use Rattle.heads.specs.declared.Taken.{Taken}
-use Rattle.heads.specs.declared.Then.{Then}
+use Rattle.heads.specs.declared.Next.{Next}
+use Rattle.std.specs.Prelude.{⊤, Result, Ok, Err, Some, None}
+use Rattle.std.specs.Prelude as std
 use Rattle.heads.specs.declared.Move.{Move}
 use Rattle.heads.specs.declared.Move.TheVariants as move
 use Rattle.heads.specs.View.{Cols, rests_of}
@@ -38,14 +40,14 @@ pub record Takes (s : Cols) (b : Base) (h : Heads) (t : Taken) (g : Heads) : Typ
   pub lively : t.live ≡ true → live b (taken_record b t) ≡ true
 
 module _ (s : Cols) (h : Heads) (w : Turning s h) (N : ℕ) (b : Base) where
-  abbrev pub turn_here : Move
+  abbrev pub turn_here : Result Move End
   turn_here = move_here s h w.shaped w.placed.few N b
 
   -- a record that is taken and live is the one that was picked
-  abbrev Lively : Move → Type 0
-  Lively (move.Stay x) = Unit {0}
-  Lively (move.Wrong e) = Unit {0}
-  Lively (move.Takes t a) = t.live ≡ true → live b (taken_record b t) ≡ true
+  abbrev Lively : Result Move End → Type 0
+  Lively (Ok (move.Stay x)) = Unit {0}
+  Lively (Err e) = Unit {0}
+  Lively (Ok (move.Takes t a)) = t.live ≡ true → live b (taken_record b t) ≡ true
 
   lively_here : Lively turn_here
   unfolding move_of
@@ -55,7 +57,7 @@ module _ (s : Cols) (h : Heads) (w : Turning s h) (N : ℕ) (b : Base) where
       go none = tt
       go (one a rest ts) = case (taken b a) (next N a rest) rest
         where
-          case : (t : Bool) (o : Option End) (k : List Record) → Lively (cond t (takes (taken_of b a) (get_or h.next a.stream.0 0 + 1) o k) (move.Stay (head_of a)))
+          case : (t : Bool) (o : Option End) (k : List Record) → Lively (cond t (takes (taken_of b a) (get_or h.next a.stream.0 0 + 1) o k) (Ok (move.Stay (Some (head_of a)))))
           case false o k = tt
           case true (Option.some e) k = tt
           case true Option.none [] = λ e. subst (λ (r : Record). live b r ≡ true) (sym (taken_same b a e)) e
@@ -65,7 +67,7 @@ module _ (s : Cols) (h : Heads) (w : Turning s h) (N : ℕ) (b : Base) where
   pub least_below : (a : Record) (rest : List Record) (ts : List (List Record)) → pick ahead (rests_of s h) ≡ one a rest ts → a.stream.0 < 8
   least_below a rest ts z = omega (arith, w.placed.few, (stands s h w.shaped w.placed.few N b a rest ts z).place)
 
-  module _ (m : Move) (here : m ≡ turn_here) where
+  module _ (m : Result Move End) (here : m ≡ turn_here) where
     turned : Turning s (moved h m)
     turned = record { placed = rw here (moved_placed s h w.shaped w.placed.few N b w.placed); shaped = moved_shaped h m w.shaped }
 
@@ -78,11 +80,11 @@ module _ (s : Cols) (h : Heads) (w : Turning s h) (N : ℕ) (b : Base) where
     lives : Lively m
     lives = rw here lively_here
 
-    pub takes_so : (t : Taken) (a : Then) → m ≡ move.Takes t a → Takes s b h t (turn_at h t.stream.0 a)
+    pub takes_so : (t : Taken) (a : std.Option Next) → m ≡ Ok (move.Takes t a) → Takes s b h t (turn_at h t.stream.0 a)
     takes_so t a e =
         let i : t.stream.0 < h.streams = rw e at inside in
         record { place = omega (arith, w.placed.few); turning = rw e at turned; less = rw e at less; lively = rw e at lives }
 
     -- where no head is taken the turn says which is the least
-    pub stays_best : (x : Best) → m ≡ move.Stay x → x ≡ best_of (pick ahead (rests_of s h))
+    pub stays_best : (x : std.Option Best) → m ≡ Ok (move.Stay x) → x ≡ best_of (pick ahead (rests_of s h))
     stays_best x e = stayed s h w.shaped w.placed.few N b x (sym here ∙ e)

@@ -1,11 +1,10 @@
 -- "Heads are loaded at the first accepted base, stream 0 first, each checked; the first fault ends the run."
-use Rattle.std.specs.Prelude.{◌≡◌, cond, ℕ, zero, suc, ◌+◌, leb, get_or}
+use Rattle.std.specs.Prelude.{◌≡◌, ⊤, Result, cond, ℕ, zero, suc, ◌+◌, leb, get_or}
 use Rattle.std.proofs.Math.Option.{Option, none}
 use Rattle.rules.specs.declared.End.{End}
 use Rattle.rules.specs.Rows.{fault}
 use Rattle.rules.specs.Call.{loading}
 use Rattle.heads.specs.declared.Next.{Next}
-use Rattle.heads.specs.declared.Check.{Check}
 use Rattle.heads.specs.View.{Cols, Heads, row_at, fresh_of}
 use Rattle.heads.specs.Move.{check_of, next_of, ends_at, goes_at, Shaped, Placed}
 
@@ -27,7 +26,7 @@ abbrev pub wrong_first : Cols → ℕ → Heads → ℕ → Option End
 wrong_first s n h k = cond (leb (get_or h.to k 0) (get_or h.next k 0)) none (fault n none (row_at s (get_or h.from k 0) k (get_or h.next k 0)))
 
 -- the heads h with the first head of stream k read and checked: what is wrong, and the heads after it where nothing is
-pub record BeginsAs (s : Cols) (n : ℕ) (h : Heads) (k : ℕ) (w : Check) (h' : Heads) : Type 0 where
+pub record BeginsAs (s : Cols) (n : ℕ) (h : Heads) (k : ℕ) (w : Result ⊤ End) (h' : Heads) : Type 0 where
   pub check : w ≡ check_of (wrong_first s n h k)
   pub heads : wrong_first s n h k ≡ none → h' ≡ load_one s h k
 
@@ -37,6 +36,6 @@ pub record Loadable (s : Cols) (h : Heads) : Type 0 where
   pub placed : Placed s h.streams h.next h.from h.to
 
 -- all first heads are read and checked: the first fault, and the heads after it where there is none
-pub record LoadsAs (s : Cols) (n : ℕ) (h : Heads) (w : Check) (h' : Heads) : Type 0 where
+pub record LoadsAs (s : Cols) (n : ℕ) (h : Heads) (w : Result ⊤ End) (h' : Heads) : Type 0 where
   pub check : w ≡ check_of (loading n (fresh_of s h))
   pub heads : loading n (fresh_of s h) ≡ none → h' ≡ load_to s h h.streams

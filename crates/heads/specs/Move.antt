@@ -1,6 +1,7 @@
 -- What a turn of a pull comes to, from the head that is picked; and the heads after it.
-use Rattle.std.specs.Prelude.{◌≡◌, cond, List, [], ◌∷◌, ℕ, ◌+◌, ◌≤◌, ◌<◌, length, get_or, set}
+use Rattle.std.specs.Prelude.{◌≡◌, ⊤, Result, Ok, Err, Some, None, cond, List, [], ◌∷◌, ℕ, ◌+◌, ◌≤◌, ◌<◌, length, get_or, set}
 use Rattle.std.proofs.Math.Option.{Option}
+use Rattle.std.specs.Prelude as std
 use Rattle.rules.specs.declared.Base.{Base}
 use Rattle.rules.specs.declared.End.{End}
 use Rattle.rules.specs.declared.Row.{Row}
@@ -11,13 +12,9 @@ use Rattle.rules.specs.Streams.{ahead, next}
 use Rattle.rules.specs.Overlap.{taken, live}
 use Rattle.least.specs.declared.Best.{Best}
 use Rattle.least.specs.Fours.{record_in}
-use Rattle.least.specs.Least.{no_best, head_of}
+use Rattle.least.specs.Least.{head_of}
 use Rattle.heads.specs.declared.Taken.{Taken}
 use Rattle.heads.specs.declared.Next.{Next}
-use Rattle.heads.specs.declared.Then.{Then}
-use Rattle.heads.specs.declared.Then.TheVariants as then
-use Rattle.heads.specs.declared.Check.{Check}
-use Rattle.heads.specs.declared.Check.TheVariants as check
 use Rattle.heads.specs.declared.Move.{Move}
 use Rattle.heads.specs.declared.Move.TheVariants as move
 use Rattle.heads.specs.View.{Cols, Heads, rows_from, rests_of}
@@ -34,9 +31,9 @@ abbrev pub next_record : Stream → Next → Record
 next_record k x = record { stream = k; row = x.row; it = next_row x }
 
 -- what is wrong with a row, as the code answers it
-abbrev pub check_of : Option End → Check
-check_of Option.none = check.Fine
-check_of (Option.some e) = check.Wrong e
+abbrev pub check_of : Option End → Result ⊤ End
+check_of Option.none = Ok tt
+check_of (Option.some e) = Err e
 
 -- ---- a turn
 
@@ -47,23 +44,23 @@ taken_of b a = record { stream = a.stream; live = live b a; row = a.row; start =
 abbrev pub next_of : Record → ℕ → Next
 next_of x place = record { chrom = x.it.chrom; start = x.it.start; stop = x.it.stop; row = x.row; next = place }
 
--- what becomes of a stream, by the rows behind the head that is taken, the first of which stands ahead of `place`
-abbrev pub then_of : ℕ → List Record → Then
-then_of place [] = then.Ends
-then_of place (x ∷ rest) = then.Goes (next_of x place)
+-- what becomes of a stream, by the rows behind the head that is taken, the first of which stands ahead of `place`: it has ended, or has another head
+abbrev pub then_of : ℕ → List Record → std.Option Next
+then_of place [] = None
+then_of place (x ∷ rest) = Some (next_of x place)
 
 -- a record is taken, what is wrong behind it, and the rows behind it
-abbrev pub takes : Taken → ℕ → Option End → List Record → Move
-takes t place (Option.some e) rest = move.Wrong e
-takes t place Option.none rest = move.Takes t (then_of place rest)
+abbrev pub takes : Taken → ℕ → Option End → List Record → Result Move End
+takes t place (Option.some e) rest = Err e
+takes t place Option.none rest = Ok (move.Takes t (then_of place rest))
 
 -- "heads are taken while [..] For each one taken, its successor is read and checked (7, 8)."
-unfoldable pub move_of : ℕ → Base → List ℕ → Pick Record → Move
-move_of n b nexts none = move.Stay no_best
-move_of n b nexts (one a rest ts) = cond (taken b a) (takes (taken_of b a) (get_or nexts a.stream.0 0 + 1) (next n a rest) rest) (move.Stay (head_of a))
+unfoldable pub move_of : ℕ → Base → List ℕ → Pick Record → Result Move End
+move_of n b nexts none = Ok (move.Stay None)
+move_of n b nexts (one a rest ts) = cond (taken b a) (takes (taken_of b a) (get_or nexts a.stream.0 0 + 1) (next n a rest) rest) (Ok (move.Stay (Some (head_of a))))
 
 -- the next turn of a pull at b, of n chromosomes
-abbrev pub turn_of : Cols → ℕ → Base → Heads → Move
+abbrev pub turn_of : Cols → ℕ → Base → Heads → Result Move End
 turn_of s n b h = move_of n b h.next (pick ahead (rests_of s h))
 
 -- the rows behind the heads, by the streams' places
@@ -101,15 +98,15 @@ ends_at h k = record { chrom = h.chrom; start = h.start; stop = h.stop; row = h.
 abbrev pub goes_at : Heads → ℕ → Next → Heads
 goes_at h k x = record { chrom = set h.chrom k x.chrom.0; start = set h.start k x.start; stop = set h.stop k x.stop; row = set h.row k x.row; ended = set h.ended k 0; next = set h.next k x.next; from = h.from; to = h.to; streams = h.streams }
 
-abbrev pub turn_at : Heads → ℕ → Then → Heads
-turn_at h k then.Ends = ends_at h k
-turn_at h k (then.Goes x) = goes_at h k x
+abbrev pub turn_at : Heads → ℕ → std.Option Next → Heads
+turn_at h k None = ends_at h k
+turn_at h k (Some x) = goes_at h k x
 
 -- the heads after a turn
-abbrev pub moved : Heads → Move → Heads
-moved h (move.Stay x) = h
-moved h (move.Wrong e) = h
-moved h (move.Takes t a) = turn_at h t.stream.0 a
+abbrev pub moved : Heads → Result Move End → Heads
+moved h (Err e) = h
+moved h (Ok (move.Stay x)) = h
+moved h (Ok (move.Takes t a)) = turn_at h t.stream.0 a
 
 -- a record that is taken and live, which lies on the base's chromosome
 abbrev pub taken_record : Base → Taken → Record

@@ -4,6 +4,7 @@ use Rattle.basics.specs.Build.{build}
 use Rattle.rules.specs.Rows.{Record}
 use Rattle.least.specs.Fours.{record_of, is_ended, unless_ended}
 use Rattle.heads.specs.declared.Columns.{Columns}
+use Rattle.heads.specs.declared.Heads as arrays
 
 -- the lent columns: all streams' rows, one after the other
 pub record Cols : Type 0 where
@@ -54,6 +55,9 @@ column_in i q = map (λ (x : List ℕ). get_or x i 0) q
 -- heads that lie in eight four-number arrays, with the marks and the streams' places beside them
 abbrev pub heads_by : List (List ℕ) → List ℕ → List ℕ → List ℕ → List ℕ → ℕ → Heads
 heads_by q ended next from to n = record { chrom = column_in 0 q; start = column_in 1 q; stop = column_in 2 q; row = column_in 3 q; ended = ended; next = next; from = from; to = to; streams = n }
+
+abbrev pub heads_in : arrays.Heads → Heads
+heads_in h = heads_by h.fours h.ended h.next h.from h.to h.streams
 
 -- ---- what is left
 

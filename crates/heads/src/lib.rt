@@ -6,12 +6,13 @@ ghost use Rattle.std.proofs.Math.Option.{none, some};
 ghost use Rattle.rules.specs.Rows.{good, follows, fault};
 ghost use Rattle.rules.specs.Overlap.{taken, live};
 ghost use Rattle.basics.specs.Lists.{Says};
-ghost use Rattle.heads.specs.View.{cols, row_at, heads_by};
+ghost use Rattle.heads.specs.View.{cols_of, row_at, heads_in};
 ghost use Rattle.heads.specs.Load.{BeginsAs, Loadable, LoadsAs};
 ghost use Rattle.heads.specs.Move.{best_record, next_row, next_record, check_of, takes, turn_of, turn_at, PlacedIn, Placed, next_of};
 
 use least::Best;
 use rules::{Base, Chrom, End, Settings, Stream};
+use std::cmp::Ordering;
 
 // Columns of numbers, lent: all streams' rows, one after the other; or bases.
 #[derive(Clone, Copy)]
@@ -41,152 +42,114 @@ pub struct Next {
     pub next: usize,
 }
 
-// What is wrong with a row, if anything.
-#[derive(Clone, Copy)]
-pub enum Check {
-    Fine,
-    Wrong(End),
-}
-
-// What becomes of a stream whose head is taken: it has ended, or the row behind that head is its head.
-#[derive(Clone, Copy)]
-pub enum Then {
-    Ends,
-    Goes(Next),
-}
-
 // What a turn of a pull comes to.
 #[derive(Clone, Copy)]
 pub enum Move {
-    // No head is to be taken; the least one, of stream 8 where there is none.
-    Stay(Best),
-    // The row behind the head that is to be taken is at fault.
-    Wrong(End),
-    // A head is taken, and what becomes of its stream.
-    Takes(Taken, Then),
+    // No head is to be taken; the least one, if there is any.
+    Stay(Option<Best>),
+    // A head is taken, and the row behind it, if there is one, is its stream's head.
+    Takes(Taken, Option<Next>),
+}
+
+// The heads of a run: of each stream its head as four numbers (chromosome, start, stop, row), its mark (0: it goes on), the place of the row behind
+// its head in the lent columns, and where its rows begin and end there.
+#[derive(Clone, Copy)]
+pub struct Heads {
+    pub fours: [[u64; 4]; 8],
+    pub ended: [u64; 8],
+    pub next: [usize; 8],
+    pub from: [usize; 8],
+    pub to: [usize; 8],
+    pub streams: usize,
 }
 
 // Whether a head is taken at a base: it lies on an earlier chromosome, or on the base's with start < base stop.
-pub fn is_taken(b: Base, h: Best) -> bool
+fn is_taken(b: Base, h: Best) -> bool
     ensures { result ≡ taken b (best_record h) }
 {
-    let c = b.chrom;
-    let d = h.chrom;
-    if d.0 < c.0 {
-        return true;
+    match h.chrom.cmp(&b.chrom) {
+        Ordering::Less => true,
+        Ordering::Equal => measures::reaches(b.stop, h.start),
+        Ordering::Greater => false,
     }
-    if c.0 < d.0 {
-        return false;
-    }
-    measures::reaches(b.stop, h.start)
 }
 
 // Whether a head is live for a base: it is on the base's chromosome and ends after base start.
-pub fn is_live(b: Base, h: Best) -> bool
+fn is_live(b: Base, h: Best) -> bool
     ensures { result ≡ live b (best_record h) }
 {
-    let c = b.chrom;
-    let d = h.chrom;
-    if d.0 == c.0 {
-        return measures::lasts(b.start, h.stop);
-    }
-    false
+    h.chrom == b.chrom && measures::lasts(b.start, h.stop)
 }
 
 // Whether a row's chromosome is one of n, and its start no later than its stop; else 7.
 fn is_good(n: u64, x: Next) -> bool
     ensures { result ≡ good n (next_row x) }
 {
-    let c = x.chrom;
-    if n <= c.0 {
-        return false;
-    }
-    x.start <= x.stop
+    x.chrom.0 < n && x.start <= x.stop
 }
 
 // Whether a row is in order behind a head, by chromosome and start; else 8.
 fn is_ordered(h: Best, x: Next) -> bool
     ensures { result ≡ follows (best_record h).it (next_row x) }
 {
-    let last = h.chrom;
-    let here = x.chrom;
-    if last.0 < here.0 {
-        return true;
-    }
-    if here.0 < last.0 {
-        return false;
-    }
-    h.start <= x.start
+    (h.chrom, h.start) <= (x.chrom, x.start)
 }
 
 // What is wrong with the first row of stream k, of n chromosomes: 7.
-fn check_first(n: u64, k: Stream, x: Next) -> Check
+fn check_first(n: u64, k: Stream, x: Next) -> Result<(), End>
     ensures { result ≡ check_of (fault n none (next_record k x)) }
 {
     if is_good(n, x) {
-        return Check::Fine;
+        return Ok(());
     }
-    Check::Wrong(End::Faulty(k, x.row))
+    Err(End::Faulty(k, x.row))
 }
 
 // What is wrong with the row behind a head: 7, then 8.
-fn check_behind(n: u64, h: Best, x: Next) -> Check
+fn check_behind(n: u64, h: Best, x: Next) -> Result<(), End>
     ensures { result ≡ check_of (fault n (some (best_record h).it) (next_record h.stream x)) }
 {
-    let k = h.stream;
-    let good = is_good(n, x);
-    let ordered = is_ordered(h, x);
-    if !good {
-        return Check::Wrong(End::Faulty(k, x.row));
+    if !is_good(n, x) {
+        return Err(End::Faulty(h.stream, x.row));
     }
-    if !ordered {
-        return Check::Wrong(End::Unsorted(k, x.row));
+    if !is_ordered(h, x) {
+        return Err(End::Unsorted(h.stream, x.row));
     }
-    Check::Fine
+    Ok(())
 }
 
-// The row at a place of the columns, in a stream whose rows begin at `first`.
-fn read_row(at: usize, first: usize, chrom: &[u64], start: &[u64], stop: &[u64]) -> Next
-    requires { (first ≤ at) × (at < length chrom.now) × (length start.now ≡ length chrom.now) × (length stop.now ≡ length chrom.now) }
-    ensures { result ≡ next_of (row_at (cols chrom.now start.now stop.now) first 0 at) (at + 1) }
-{
-    Next {
-        chrom: Chrom(chrom[at]),
-        start: start[at],
-        stop: stop[at],
-        row: measures::number(at - first),
-        next: at + 1,
+impl Columns<'_> {
+    // The row at a place, in a stream whose rows begin at `first`.
+    fn row(self, at: usize, first: usize) -> Next
+        requires { (first ≤ at) × (at < length self.chrom.now) × (length self.start.now ≡ length self.chrom.now) × (length self.stop.now ≡ length self.chrom.now) }
+        ensures { result ≡ next_of (row_at (cols_of self.entry) first 0 at) (at + 1) }
+    {
+        Next {
+            chrom: Chrom(self.chrom[at]),
+            start: self.start[at],
+            stop: self.stop[at],
+            row: (at - first) as u64,
+            next: at + 1,
+        }
     }
 }
 
 // A head is taken, and the row behind it is read and checked.
-fn follow(
-    t: Taken,
-    h: Best,
-    at: usize,
-    first: usize,
-    n: u64,
-    chrom: &[u64],
-    start: &[u64],
-    stop: &[u64],
-) -> Move
-    requires { (first ≤ at) × (at < length chrom.now) × (length start.now ≡ length chrom.now) × (length stop.now ≡ length chrom.now) }
-    ensures { result ≡ takes t (at + 1) (fault n (some (best_record h).it) (row_at (cols chrom.now start.now stop.now) first h.stream.0 at)) (row_at (cols chrom.now start.now stop.now) first h.stream.0 at ∷ []) }
+fn follow(t: Taken, h: Best, at: usize, first: usize, n: u64, s: Columns) -> Result<Move, End>
+    requires { (first ≤ at) × (at < length s.chrom.now) × (length s.start.now ≡ length s.chrom.now) × (length s.stop.now ≡ length s.chrom.now) }
+    ensures { result ≡ takes t (at + 1) (fault n (some (best_record h).it) (row_at (cols_of s.entry) first h.stream.0 at)) (row_at (cols_of s.entry) first h.stream.0 at ∷ []) }
 {
-    let x = read_row(at, first, chrom, start, stop);
-    let w = check_behind(n, h, x);
-    match w {
-        Check::Wrong(e) => Move::Wrong(e),
-        Check::Fine => Move::Takes(t, Then::Goes(x)),
-    }
+    let x = s.row(at, first);
+    check_behind(n, h, x)?;
+    Ok(Move::Takes(t, Some(x)))
 }
 
 // Whether the streams' rows are among the lent ones, of the three columns' lengths.
-pub fn is_placed<'a>(
+pub fn is_placed(
     streams: usize,
-    next: &'a [usize; 8],
-    from: &'a [usize; 8],
-    to: &'a [usize; 8],
+    next: &[usize; 8],
+    from: &[usize; 8],
+    to: &[usize; 8],
     chroms: usize,
     starts: usize,
     stops: usize,
@@ -202,150 +165,86 @@ pub fn is_placed<'a>(
     if stops != chroms {
         return false;
     }
-    let mut k: usize = 0;
-    while k < streams {
+    for k in 0..streams {
         if next[k] < from[k] {
             return false;
         }
         if chroms < to[k] {
             return false;
         }
-        k += 1;
     }
     true
 }
 
-// What the next turn of a pull at a base comes to. Lent are the heads, the streams' marks, next rows, first places and ends, and the columns; n is the
-// number of chromosomes.
-pub fn decide<'a>(
-    fours: &'a [[u64; 4]; 8],
-    ended: &'a [u64; 8],
-    streams: usize,
-    next: &'a [usize; 8],
-    from: &'a [usize; 8],
-    to: &'a [usize; 8],
-    b: Base,
-    n: u64,
-    chrom: &[u64],
-    start: &[u64],
-    stop: &[u64],
-) -> Move
-    requires { Placed (cols chrom.now start.now stop.now) streams next.now from.now to.now }
-    ensures { result ≡ turn_of (cols chrom.now start.now stop.now) n b (heads_by fours.now ended.now next.now from.now to.now streams) }
-{
-    let h = least::least(fours, ended, streams);
-    let s = h.stream;
-    if s.0 == 8 {
-        return Move::Stay(h);
-    }
-    if !is_taken(b, h) {
-        return Move::Stay(h);
-    }
-    let t = Taken {
-        stream: s,
-        live: is_live(b, h),
-        row: h.row,
-        start: h.start,
-        stop: h.stop,
-    };
-    let k = measures::place_in(s.0);
-    let at = next[k];
-    if to[k] <= at {
-        return Move::Takes(t, Then::Ends);
-    }
-    let first = from[k];
-    follow(t, h, at, first, n, chrom, start, stop)
-}
-
-// Stream k goes on in place: it has ended, or has another head.
-pub fn go_on(
-    fours: &mut [[u64; 4]; 8],
-    ended: &mut [u64; 8],
-    next: &mut [usize; 8],
-    k: usize,
-    a: Then,
-)
-    requires { k < 8 }
-    ensures { (from to : List ℕ) (n : ℕ) → heads_by fours.new ended.new next.new from to n ≡ turn_at (heads_by fours.old ended.old next.old from to n) k a }
-{
-    match a {
-        Then::Ends => {
-            ended[k] = 1;
-            return;
+impl Heads {
+    // What the next turn of a pull at a base comes to, or what is wrong with the row behind the head that is to be taken; n is the number of
+    // chromosomes.
+    #[tactic(auto, using(least::proofs::LeastLaws::least_inside))]
+    pub fn decide(&self, b: Base, n: u64, s: Columns) -> Result<Move, End>
+        requires { Placed (cols_of s) self.now.streams self.now.next self.now.from self.now.to }
+        ensures { result ≡ turn_of (cols_of s.entry) n b (heads_in self.now) }
+    {
+        let Some(h) = least::least(&self.fours, &self.ended, self.streams) else {
+            return Ok(Move::Stay(None));
+        };
+        if !is_taken(b, h) {
+            return Ok(Move::Stay(Some(h)));
         }
-        Then::Goes(x) => {
-            let c = x.chrom;
-            let y = [c.0, x.start, x.stop, x.row];
-            fours[k] = y;
-            ended[k] = 0;
-            next[k] = x.next;
-            return;
+        let t = Taken {
+            stream: h.stream,
+            live: is_live(b, h),
+            row: h.row,
+            start: h.start,
+            stop: h.stop,
+        };
+        let k = h.stream.0 as usize;
+        let at = self.next[k];
+        if self.to[k] <= at {
+            return Ok(Move::Takes(t, None));
+        }
+        follow(t, h, at, self.from[k], n, s)
+    }
+
+    // Stream k goes on: it has another head, or has ended.
+    pub fn go_on(&mut self, k: usize, next: Option<Next>)
+        requires { k < 8 }
+        ensures { heads_in self.new ≡ turn_at (heads_in self.old) k next }
+    {
+        match next {
+            None => self.ended[k] = 1,
+            Some(x) => {
+                self.fours[k] = [x.chrom.0, x.start, x.stop, x.row];
+                self.ended[k] = 0;
+                self.next[k] = x.next;
+            }
         }
     }
-}
 
-// The first head of stream k is read, checked and stored: what is wrong with it.
-fn begin<'a>(
-    fours: &mut [[u64; 4]; 8],
-    ended: &mut [u64; 8],
-    next: &mut [usize; 8],
-    from: &'a [usize; 8],
-    to: &'a [usize; 8],
-    streams: usize,
-    k: usize,
-    n: u64,
-    chrom: &[u64],
-    start: &[u64],
-    stop: &[u64],
-) -> Check
-    requires { Placed (cols chrom.now start.now stop.now) streams next.old from.now to.now × (k < streams) }
-    ensures { BeginsAs (cols chrom.now start.now stop.now) n
-        (heads_by fours.old ended.old next.old from.now to.now streams) k result
-        (heads_by fours.new ended.new next.new from.now to.now streams) }
-{
-    let at = next[k];
-    let first = from[k];
-    if to[k] <= at {
-        go_on(fours, ended, next, k, Then::Ends);
-        return Check::Fine;
-    }
-    let x = read_row(at, first, chrom, start, stop);
-    let s = Stream(measures::number(k));
-    let w = check_first(n, s, x);
-    if let Check::Wrong(e) = w {
-        return Check::Wrong(e);
-    }
-    go_on(fours, ended, next, k, Then::Goes(x));
-    Check::Fine
-}
-
-// The first head of each stream is read and checked, stream 0 first, up to the first fault: what is wrong, if anything.
-pub fn load<'a>(
-    fours: &mut [[u64; 4]; 8],
-    ended: &mut [u64; 8],
-    next: &mut [usize; 8],
-    from: &'a [usize; 8],
-    to: &'a [usize; 8],
-    streams: usize,
-    n: u64,
-    chrom: &[u64],
-    start: &[u64],
-    stop: &[u64],
-) -> Check
-    requires { Loadable (cols chrom.now start.now stop.now) (heads_by fours.old ended.old next.old from.now to.now streams) }
-    ensures { LoadsAs (cols chrom.now start.now stop.now) n
-        (heads_by fours.old ended.old next.old from.now to.now streams) result
-        (heads_by fours.new ended.new next.new from.now to.now streams) }
-{
-    let mut k: usize = 0;
-    while k < streams {
-        let w = begin(
-            fours, ended, next, from, to, streams, k, n, chrom, start, stop,
-        );
-        if let Check::Wrong(e) = w {
-            return Check::Wrong(e);
+    // The first head of stream k is read, checked and stored, or it is told what is wrong with it.
+    fn begin(&mut self, k: usize, n: u64, s: Columns) -> Result<(), End>
+        requires { Placed (cols_of s) self.old.streams self.old.next self.old.from self.old.to × (k < self.old.streams) }
+        ensures { BeginsAs (cols_of s.entry) n (heads_in self.old) k result (heads_in self.new) }
+    {
+        let at = self.next[k];
+        let first = self.from[k];
+        if self.to[k] <= at {
+            self.go_on(k, None);
+            return Ok(());
         }
-        k += 1;
+        let x = s.row(at, first);
+        check_first(n, Stream(k as u64), x)?;
+        self.go_on(k, Some(x));
+        Ok(())
     }
-    Check::Fine
+
+    // The first head of each stream is read and checked, stream 0 first, up to the first fault, which is told.
+    pub fn load(&mut self, n: u64, s: Columns) -> Result<(), End>
+        requires { Loadable (cols_of s) (heads_in self.old) }
+        ensures { LoadsAs (cols_of s.entry) n (heads_in self.old) result (heads_in self.new) }
+    {
+        for k in 0..self.streams {
+            self.begin(k, n, s)?;
+        }
+        Ok(())
+    }
 }

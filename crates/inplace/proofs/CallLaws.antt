@@ -5,25 +5,13 @@ use Prim.Native.Nat.{ℕ}
 use lib.ListN.{length}
 use Rattle.rules.specs.declared.Settings.{Settings}
 use Rattle.heads.specs.View.{Cols}
-use Rattle.runs.specs.declared.Run.{Run}
 use Rattle.runs.specs.declared.start.Started.{Started}
-use Rattle.pulls.specs.Pulls.{Lent}
 use Rattle.runs.specs.Start.{plan, start_of}
-use Rattle.many.specs.declared.Passed.{Passed}
-use Rattle.many.specs.Many.{GivesAll}
 use Rattle.fields.specs.declared.Reading.{Reading}
 use Rattle.fields.specs.Table.{Found, Fills}
-use Rattle.inplace.specs.declared.told.Offered.{Offered}
-use Rattle.inplace.specs.declared.told.Stopped.{Stopped}
 use Rattle.inplace.specs.declared.readers.Tally.{Tally}
-use Rattle.inplace.specs.Told.{offered_of, stopped_of}
-use Rattle.inplace.specs.Calls.{eight_of, streams_in, plan_of, begun_number, BeginsInPlace, GivesInPlace}
+use Rattle.inplace.specs.Calls.{eight_of, streams_in, plan_of, begun_number, BeginsInPlace}
 use Rattle.inplace.specs.Tally.{tally_of, Tallies}
-
--- bases given to the run that is kept, and what they came to told
-pub gives_so : {s : Cols} {lengths : List ℕ} {t : Cols} {r : Run} {l l' : Lent} {ns ns' : List ℕ} {p : Passed} {o : Offered} {x : Stopped}
-    → GivesAll s lengths t r l ns p l' ns' → o ≡ offered_of p.offer → x ≡ stopped_of p.last → GivesInPlace s lengths t r l ns (record { bases = p.bases; records = p.records; offer = o; last = x }) p.run l' ns'
-gives_so {p = p} e i j = record { passed = p; told = rw (i, j); run = refl; gives = e }
 
 -- a run begun with ranges in two columns, and its answer told
 pub begins_so : (x : Settings) (from to : List ℕ) (text names_from names_to : List ℕ) (s : Cols) {n : ℕ} {begins ends : List ℕ} {t : Started} {k : ℕ}

@@ -7,14 +7,14 @@ use mathlib.Core.Option.{some}
 use mathlib.Core.List.{List}
 use Prim.Native.Nat.{ℕ, ◌<◌}
 use native.Mathlib.Omega.{arith}
-use borrow.Author.Tests.{le-leb, lt-leb, eqb-true, eq-eqb}
+use borrow.Author.Tests.{le-leb, lt-leb, eqb-true}
 use lib.Dec.{eqb}
 use lib.ListN.{length}
-use Rattle.basics.proofs.BoolLaws.{clash}
 use Rattle.rules.specs.declared.Base.{Base}
 use Rattle.rules.specs.declared.Answer.{Answer}
 use Rattle.rules.specs.declared.Answer.TheVariants.{Found, Refused, Ended}
-use Rattle.rules.specs.declared.Offer.TheVariants.{Nothing}
+use Rattle.std.specs.Prelude.{Some, None}
+use Rattle.std.specs.Prelude as std
 use Rattle.rules.specs.declared.Refusal.{Refusal}
 use Rattle.rules.specs.declared.Refusal.TheVariants.{Sizes}
 use Rattle.rules.specs.declared.Settings.{Settings}
@@ -41,15 +41,15 @@ use Rattle.many.specs.Alike.{AllAlike}
 use Rattle.many.proofs.Alikes.{all_alike}
 use Rattle.many.specs.Many.{base_at, Unfound, Even, uneven_by}
 use Rattle.demands.proofs.OneResult.{Alike, one_result}
-use Rattle.sweep.proofs.Single.{single_found, single_last, single_other, single_none}
+use Rattle.sweep.proofs.Single.{single_found, single_one, single_other, single_none}
 use Rattle.inplace.specs.declared.Swept.{Swept}
-use Rattle.inplace.specs.Told.{offered_of, stopped_of, swept_of, alone_of}
+use Rattle.inplace.specs.Told.{offered_of, stopped_by, stopped_of, swept_of, alone_of}
 use Rattle.inplace.specs.Calls.{streams_in, plan_of, BeginsInPlace, GivesInPlace, answered, GivesAlone}
 
 -- ---- numbers
 
 -- the number that is told is 01's
-pub told_number : (a : Answer) → (stopped_of a).refusal ≡ number_of a
+pub told_number : (a : Answer) → (stopped_of (Some a)).refusal ≡ number_of a
 told_number (Found n o) = refl
 told_number (Refused x) = refl
 told_number (Ended e) = refl
@@ -71,13 +71,13 @@ module _ (s : Cols) (lengths : List ℕ) (l : Lent) where
 
 -- ---- a base given alone
 
-found_alone : (p : Passed) {a : Answer} → p.bases ≡ 1 → p.last ≡ Found 0 Nothing → Found p.records p.offer ≡ a → swept_of p ≡ alone_of a
+found_alone : (p : Passed) {a : Answer} → p.bases ≡ 1 → p.last ≡ None → Found p.records p.offer ≡ a → swept_of p ≡ alone_of a
 found_alone p i j e = rw (← e, i, j)
 
-other_alone : (p : Passed) {a : Answer} → (p.bases ≡ 0) × ((p.records ≡ 0) × ((p.offer ≡ Nothing) × Unfound p.last)) → p.last ≡ a → swept_of p ≡ alone_of a
-other_alone p {a} (i, (j, (k, u))) e = rw (i, j, k, e) (go a (subst Unfound e u))
+other_alone : (p : Passed) (x : Answer) {a : Answer} → (p.bases ≡ 0) × ((p.records ≡ 0) × ((p.offer ≡ None) × Unfound x)) → p.last ≡ Some x → x ≡ a → swept_of p ≡ alone_of a
+other_alone p x {a} (i, (j, (k, u))) l e = rw (i, j, k, l, e) (go a (subst Unfound e u))
   where
-    go : (a : Answer) → Unfound a → ◌≡◌ {A = Swept} (record { bases = 0; records = 0; offer = offered_of Nothing; last = stopped_of a }) (alone_of a)
+    go : (a : Answer) → Unfound a → ◌≡◌ {A = Swept} (record { bases = 0; records = 0; offer = offered_of None; last = stopped_by a }) (alone_of a)
     go (Found n o) z = absurd z
     go (Refused x) z = refl
     go (Ended f) z = refl
@@ -88,17 +88,15 @@ module _ {s : Cols} {lengths : List ℕ} {t : Cols} {r : Run} {l : Lent} {ns : L
   as_given {x} y = rw g.run (subst (λ (z : Answer). Gives s lengths r (base_at t 0) l (record { run = g.passed.run; answer = z }) l') y.settles.answer y)
 
   pub given_alone : GivesAlone s lengths r (base_at t 0) l a r' l'
-  given_alone = go (eqb g.passed.bases 1) refl
+  given_alone = go g.passed.last refl
     where
-      go : (c : Bool) → eqb g.passed.bases 1 ≡ c → GivesAlone s lengths r (base_at t 0) l a r' l'
-      go true e =
-          let i = eqb-true g.passed.bases 1 e in
-          let y = single_found n even g.gives i in
-          record { told = g.told ∙ found_alone g.passed i (single_last n even g.gives i) y.settles.answer; gives = as_given y }
-      go false e =
-          let i : g.passed.bases ≡ 1 → ⊥ = λ o. clash (eq-eqb g.passed.bases 1 o) e in
-          let y = single_other n even g.gives i in
-          record { told = g.told ∙ other_alone g.passed (single_none n even g.gives i) y.settles.answer; gives = as_given y }
+      go : (o : std.Option Answer) → g.passed.last ≡ o → GivesAlone s lengths r (base_at t 0) l a r' l'
+      go None e =
+          let y = single_found n even g.gives e in
+          record { told = g.told ∙ found_alone g.passed (single_one n even g.gives e) e y.settles.answer; gives = as_given y }
+      go (Some x) e =
+          let y = single_other n even g.gives x e in
+          record { told = g.told ∙ other_alone g.passed x (single_none n even g.gives x e) e y.settles.answer; gives = as_given y }
 
 -- ---- "run unchanged"
 
@@ -146,7 +144,7 @@ module _ (s : Cols) (lengths : List ℕ) (t : Cols) (r : Run) (l : Lent) (ns : L
   pub uneven_unchanged : (r' ≡ r) × ((l' ≡ l) × (ns' ≡ ns))
   uneven_unchanged = (g.run ∙ ap (λ (p : Passed). p.run) (g.gives.uneven d).passed, ((g.gives.uneven d).lent, (g.gives.uneven d).counts))
 
-  pub uneven_told : a ≡ record { bases = 0; records = 0; offer = offered_of Nothing; last = stopped_of (uneven_by (stage_of r)) }
+  pub uneven_told : a ≡ record { bases = 0; records = 0; offer = offered_of None; last = stopped_by (uneven_by (stage_of r)) }
   uneven_told = g.told ∙ ap swept_of (g.gives.uneven d).passed
 
 -- ---- a start: "any two results allowed by a statement are equal"

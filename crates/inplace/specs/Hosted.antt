@@ -2,6 +2,7 @@
 use Rattle.std.specs.Prelude.{◌≡◌, List, [], ◌∷◌, ◌++◌, map, ℕ, take}
 use Rattle.basics.specs.Build.{build}
 use Rattle.rules.specs.declared.Base.{Base}
+use Rattle.std.specs.Prelude.{Option}
 use Rattle.rules.specs.declared.Answer.{Answer}
 use Rattle.heads.specs.View.{Cols}
 use Rattle.queue.specs.Ring.{Cells}
@@ -38,7 +39,7 @@ pub record Sees (x : Seen) (bs : List Base) (os : List Came) : Type 0 where
   pub answered : List Came
   pub more : List Base
   pub last : List Came
-  pub answer : Answer
+  pub answer : Option Answer
   pub bases : bs ≡ build (base_at x.bases) x.told.bases 0 ++ more
   pub came : os ≡ answered ++ last
   pub counts : take x.told.bases x.counts ≡ map (λ (o : Came). count_in o.answer) answered

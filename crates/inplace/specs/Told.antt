@@ -1,7 +1,7 @@
 -- "Where an answer is an enum, the promises use a definition that gives this paper's number and values for each of its cases."
 use Rattle.std.specs.Prelude.{ℕ, get_or}
-use Rattle.rules.specs.declared.Offer.{Offer}
-use Rattle.rules.specs.declared.Offer.TheVariants.{Nothing, Upto}
+use Rattle.std.specs.Prelude.{Option, Some, None}
+use Rattle.rules.specs.Offered.{Offer}
 use Rattle.rules.specs.declared.End.{End}
 use Rattle.rules.specs.declared.Answer.{Answer}
 use Rattle.rules.specs.declared.Answer.TheVariants.{Found, Refused, Ended}
@@ -13,8 +13,8 @@ use Rattle.inplace.specs.declared.told.Stopped.{Stopped}
 
 -- the offered place, if one is
 abbrev pub offered_of : Offer → Offered
-offered_of Nothing = record { any = 0; chrom = 0; stop = 0 }
-offered_of (Upto p) = record { any = 1; chrom = p.chrom.0; stop = p.stop }
+offered_of None = record { any = 0; chrom = 0; stop = 0 }
+offered_of (Some p) = record { any = 1; chrom = p.chrom.0; stop = p.stop }
 
 -- a refusal's number and values
 abbrev pub stops_by : ℕ → ℕ → ℕ → Stopped
@@ -24,11 +24,16 @@ stops_by number stream row = record { refusal = number; stream = stream; row = r
 abbrev pub end_stops : End → Stopped
 end_stops e = stops_by (end_number e) (get_or (end_values e) 0 0) (get_or (end_values e) 1 0)
 
+-- what is told of a base's answer
+abbrev pub stopped_by : Answer → Stopped
+stopped_by (Found n o) = stops_by 0 0 0
+stopped_by (Refused x) = stops_by (refusal_number x) 0 0
+stopped_by (Ended e) = end_stops e
+
 -- what stopped the bases, if anything did
-abbrev pub stopped_of : Answer → Stopped
-stopped_of (Found n o) = stops_by 0 0 0
-stopped_of (Refused x) = stops_by (refusal_number x) 0 0
-stopped_of (Ended e) = end_stops e
+abbrev pub stopped_of : Option Answer → Stopped
+stopped_of None = stops_by 0 0 0
+stopped_of (Some a) = stopped_by a
 
 -- what a host is told of bases that were given
 abbrev pub swept_of : Passed → Swept
@@ -37,5 +42,5 @@ swept_of p = record { bases = p.bases; records = p.records; offer = offered_of p
 -- what a host is told of a base that was given alone, of its answer
 abbrev pub alone_of : Answer → Swept
 alone_of (Found n o) = record { bases = 1; records = n; offer = offered_of o; last = stops_by 0 0 0 }
-alone_of (Refused x) = record { bases = 0; records = 0; offer = offered_of Nothing; last = stopped_of (Refused x) }
-alone_of (Ended e) = record { bases = 0; records = 0; offer = offered_of Nothing; last = stopped_of (Ended e) }
+alone_of (Refused x) = record { bases = 0; records = 0; offer = offered_of None; last = stopped_by (Refused x) }
+alone_of (Ended e) = record { bases = 0; records = 0; offer = offered_of None; last = stopped_by (Ended e) }

@@ -9,6 +9,7 @@ ghost use Rattle.heads.specs.View.{cols};
 ghost use Rattle.pulls.specs.Pulls.{lent};
 ghost use Rattle.inplace.specs.Calls.{eight_of, streams_in, plan_of, begun_number, BeginsInPlace, GivesInPlace};
 
+use heads::Columns;
 pub use readers::{Tally, cedarlash_check_list, cedarlash_read_list, cedarlash_read_rows};
 pub use rules::Settings;
 use rules::Unbegun;
@@ -32,13 +33,6 @@ pub struct Swept {
 struct Begun {
     run: Run,
     number: u64,
-}
-
-// A run after bases, and what these came to.
-#[derive(Clone, Copy)]
-struct Carried {
-    run: Run,
-    swept: Swept,
 }
 
 // The number of what a start answers.
@@ -124,43 +118,6 @@ fn begin_run(
     }
 }
 
-// Gives the bases of three columns to a run by value.
-fn give_bases(
-    run: Run,
-    bchrom: &[u64],
-    bstart: &[u64],
-    bstop: &[u64],
-    chrom: &[u64],
-    start: &[u64],
-    stop: &[u64],
-    lengths: &[u64],
-    queue: &mut [[u64; 4]],
-    answers: &mut [[u64; 2]],
-    counts: &mut [usize],
-) -> Carried
-    ensures { GivesInPlace (cols chrom.now start.now stop.now) lengths.now (cols bchrom.now bstart.now bstop.now) run
-        (lent queue.old answers.old) counts.old result.swept result.run (lent queue.new answers.new) counts.new }
-{
-    let p = many::give_all(
-        run, bchrom, bstart, bstop, chrom, start, stop, lengths, queue, answers, counts,
-    );
-    let offer = p.offer;
-    let last = p.last;
-    let offered = told::offered_of(offer);
-    let stopped = told::stopped_of(last);
-    let swept = Swept {
-        bases: p.bases,
-        records: p.records,
-        offer: offered,
-        last: stopped,
-    };
-    let after = p.run;
-    Carried {
-        run: after,
-        swept: swept,
-    }
-}
-
 // Begins a run in place. Given are what is fixed from its start, for each stream where its rows begin and end in the lent columns of chromosomes, starts
 // and stops, and the chromosomes' names, by where each begins and ends in a text. 0 where a run begins, else the refusal.
 #[unsafe(no_mangle)]
@@ -206,9 +163,18 @@ pub extern "C" fn cedarlash_give(
     ensures { GivesInPlace (cols chrom.now start.now stop.now) lengths.now (cols bchrom.now bstart.now bstop.now) run.old
         (lent queue.old answers.old) counts.old result run.new (lent queue.new answers.new) counts.new }
 {
-    let s = give_bases(
-        *run, bchrom, bstart, bstop, chrom, start, stop, lengths, queue, answers, counts,
-    );
-    *run = s.run;
-    s.swept
+    let bases = Columns {
+        chrom: bchrom,
+        start: bstart,
+        stop: bstop,
+    };
+    let s = Columns { chrom, start, stop };
+    let p = many::give_all(*run, bases, s, lengths, queue, answers, counts);
+    *run = p.run;
+    Swept {
+        bases: p.bases,
+        records: p.records,
+        offer: p.offer.into(),
+        last: p.last.into(),
+    }
 }

@@ -1,12 +1,12 @@
 -- The best of the heads is the one that the merge takes next.
 use mathlib.Core.Path.{◌≡◌, refl, sym, ap, ◌∙◌}
-use mathlib.Core.Bool.{Bool, true, false, cond, not}
+use mathlib.Core.Bool.{Bool, true, false, cond, not, ◌||◌}
 use mathlib.Core.List.{List, [], ◌∷◌}
 use Prim.Native.Nat.{ℕ, zero, suc, ◌+◌, ◌-◌, ◌<◌, ◌≤◌}
 use native.Mathlib.Omega.{arith}
 use lib.Dec.{ltb, leb, eqb}
 use lib.ListN.{get_or}
-use borrow.Author.Tests.{le-leb, lt-leb, leb-true, leb-false, ne_eqb}
+use borrow.Author.Tests.{le-leb, lt-leb, leb-true, leb-false}
 use Rattle.basics.specs.Lex.{lex}
 use Rattle.basics.specs.Build.{build}
 use Rattle.basics.proofs.LexLaws.{lex_not, lex_off}
@@ -17,71 +17,96 @@ use Rattle.rules.specs.Streams.{ahead}
 use Rattle.theory.proofs.MergeLaws.{Picks, pick_picks}
 use Rattle.least.specs.declared.Best.{Best}
 use Rattle.least.specs.Fours.{is_ended, unless_ended, record_from, left_at}
-use Rattle.least.specs.Least.{no_best, head_of, best_of, sooner, best_at, better_of, best_from, least_in}
+use Rattle.least.specs.Least.{head_of, best_of, sooner, best_at, earlier, better_of, best_from, least_in, stream_of}
+use Rattle.std.specs.Prelude.{Option, Some, None}
+use Rattle.rules.specs.declared.Stream.{Stream}
 
 -- places past the streams have no head
-pub best_none : (q : List (List ℕ)) (ended : List ℕ) (n k i : ℕ) → n ≤ i → best_from q ended n k i ≡ no_best
+pub best_none : (q : List (List ℕ)) (ended : List ℕ) (n k i : ℕ) → n ≤ i → best_from q ended n k i ≡ None
 unfolding better_of
 best_none q ended n zero i h = refl
 best_none q ended n (suc k) i h = rw (le-leb n i h) (best_none q ended n k (suc i) (omega arith))
 
 -- of one or two streams, the first two places alone
 pub of_two : (q : List (List ℕ)) (ended : List ℕ) (n : ℕ) → n ≤ 2
-    → least_in q ended n ≡ better_of (record { 0 = 0 }) n (get_or q 0 []) (is_ended (get_or ended 0 0)) (better_of (record { 0 = 1 }) n (get_or q 1 []) (is_ended (get_or ended 1 0)) no_best)
+    → least_in q ended n ≡ better_of (record { 0 = 0 }) n (get_or q 0 []) (is_ended (get_or ended 0 0)) (better_of (record { 0 = 1 }) n (get_or q 1 []) (is_ended (get_or ended 1 0)) None)
 of_two q ended n h = rw (best_none q ended n 6 2 h)
 
 -- the stream of the least head of one stream, and of two
-pub of_one : (q : List (List ℕ)) (ended : List ℕ) (t : Bool) → t ≡ is_ended (get_or ended 0 0) → cond t 8 0 ≡ (least_in q ended 1).stream.0
-unfolding better_of
-of_one q ended t e = rw (of_two q ended 1 (omega arith), ← e) (go t)
-  where
-    go : (t : Bool) → cond t 8 0 ≡ (cond t no_best (best_at (record { 0 = 0 }) (get_or q 0 []))).stream.0
-    go true = refl
-    go false = refl
+abbrev only : ℕ → Option Stream
+only k = Some (record { 0 = k })
 
-pub of_both : (q : List (List ℕ)) (ended : List ℕ) (t u s : Bool) → t ≡ is_ended (get_or ended 0 0) → u ≡ is_ended (get_or ended 1 0) → s ≡ sooner (best_at (record { 0 = 1 }) (get_or q 1 [])) (get_or q 0 [])
-    → cond u (cond t 8 0) (cond t 1 (cond s 1 0)) ≡ (least_in q ended 2).stream.0
+pub of_few : (q : List (List ℕ)) (ended : List ℕ) (n : ℕ) → 0 < n → n ≤ 2 → (t u s : Bool) → t ≡ is_ended (get_or ended 0 0) → u ≡ (leb n 1 || is_ended (get_or ended 1 0)) → s ≡ sooner (best_at (record { 0 = 1 }) (get_or q 1 [])) (get_or q 0 [])
+    → cond u (cond t None (only 0)) (cond t (only 1) (cond s (only 1) (only 0))) ≡ stream_of (least_in q ended n)
 unfolding better_of
-of_both q ended t u s e f g = rw (of_two q ended 2 (omega arith), ← e, ← f) (go t u s g)
+of_few q ended n lo hi t u s e f g = rw (of_two q ended n hi, lt-leb n 0 lo, ← e) (past (leb n 1) (is_ended (get_or ended 1 0)) f)
   where
-    go : (t u s : Bool) → s ≡ sooner (best_at (record { 0 = 1 }) (get_or q 1 [])) (get_or q 0 []) → cond u (cond t 8 0) (cond t 1 (cond s 1 0))
-        ≡ (let b = cond u no_best (best_at (record { 0 = 1 }) (get_or q 1 [])) in cond t b (cond (eqb b.stream.0 8) (best_at (record { 0 = 0 }) (get_or q 0 [])) (cond (sooner b (get_or q 0 [])) b (best_at (record { 0 = 0 }) (get_or q 0 []))))).stream.0
+    go : (t u s : Bool) → s ≡ sooner (best_at (record { 0 = 1 }) (get_or q 1 [])) (get_or q 0 []) → cond u (cond t None (only 0)) (cond t (only 1) (cond s (only 1) (only 0)))
+        ≡ stream_of (let b = cond u None (Some (best_at (record { 0 = 1 }) (get_or q 1 []))) in cond t b (Some (earlier (record { 0 = 0 }) (get_or q 0 []) b)))
     go true true s g = refl
     go false true s g = refl
     go true false s g = refl
     go false false s g = rw (← g) (last s)
       where
-        last : (s : Bool) → cond s 1 0 ≡ (cond s (best_at (record { 0 = 1 }) (get_or q 1 [])) (best_at (record { 0 = 0 }) (get_or q 0 []))).stream.0
+        last : (s : Bool) → cond s (only 1) (only 0) ≡ Some (cond s (best_at (record { 0 = 1 }) (get_or q 1 [])) (best_at (record { 0 = 0 }) (get_or q 0 []))).stream
         last true = refl
         last false = refl
 
--- the head of a stream that is known by its number; 8: there is none
-abbrev head_in : List (List ℕ) → ℕ → Best
-head_in q k = cond (leb 8 k) no_best (best_at (record { 0 = k }) (get_or q k []))
+    past : (a d : Bool) → u ≡ (a || d) → cond u (cond t None (only 0)) (cond t (only 1) (cond s (only 1) (only 0)))
+        ≡ stream_of (let b = cond a None (cond d None (Some (best_at (record { 0 = 1 }) (get_or q 1 [])))) in cond t b (Some (earlier (record { 0 = 0 }) (get_or q 0 []) b)))
+    past true d z = rw z (go t true s g)
+    past false true z = rw z (go t true s g)
+    past false false z = rw z (go t false s g)
 
--- the best is the head of the stream that it names
+-- the best is the head of the stream that it names, one of eight
 module _ (q : List (List ℕ)) (ended : List ℕ) (n : ℕ) where
-  abbrev Named : Best → Type 0
-  Named b = b ≡ head_in q b.stream.0
+  pub record Mine (b : Best) : Type 0 where
+    pub inside : b.stream.0 < 8
+    pub is : best_at b.stream (get_or q b.stream.0 []) ≡ b
 
-  either : (t : Bool) {x y : Best} → Named x → Named y → Named (cond t x y)
-  either true u v = u
-  either false u v = v
+  abbrev Named : Option Best → Type 0
+  Named None = Unit {0}
+  Named (Some b) = Mine b
+
+  either : (t : Bool) (x y : Option Best) → Named x → Named y → Named (cond t x y)
+  either true x y u v = u
+  either false x y u v = v
+
+  chosen_mine : (t : Bool) {x y : Best} → Mine x → Mine y → Mine (cond t x y)
+  chosen_mine true u v = u
+  chosen_mine false u v = v
+
+  sooner_mine : (k : Stream) (o : Option Best) → k.0 < 8 → Named o → Mine (earlier k (get_or q k.0 []) o)
+  sooner_mine k None h m = record { inside = h; is = refl }
+  sooner_mine k (Some b) h m = chosen_mine (sooner b (get_or q k.0 [])) m (record { inside = h; is = refl })
 
   named : (k i : ℕ) → i + k ≡ 8 → Named (best_from q ended n k i)
   unfolding better_of
-  named zero i e = refl
+  named zero i e = tt
   named (suc k) i e =
-      let b : Best = best_from q ended n k (suc i) in
-      let later : Named b = named k (suc i) (omega arith) in
-      let mine : Named (best_at (record { 0 = i }) (get_or q i [])) = rw (lt-leb 8 i (omega arith)) in
-      either (leb n i) later (either (is_ended (get_or ended i 0)) later (either (eqb b.stream.0 8) mine (either (sooner b (get_or q i [])) later mine)))
+      let later : Named (best_from q ended n k (suc i)) = named k (suc i) (omega arith) in
+      either (leb n i) _ _ later (either (is_ended (get_or ended i 0)) _ _ later (sooner_mine (record { 0 = i }) (best_from q ended n k (suc i)) (omega arith) later))
 
-  pub least_none : 8 ≤ (least_in q ended n).stream.0 → no_best ≡ least_in q ended n
-  least_none h = let m = named 8 0 (omega arith) in rw (le-leb 8 (least_in q ended n).stream.0 h) at (sym m)
+  pub record LeastAt (k : Stream) : Type 0 where
+    pub inside : k.0 < 8
+    pub is : Some (best_at k (get_or q k.0 [])) ≡ least_in q ended n
 
-  pub least_at : (k : ℕ) → k ≡ (least_in q ended n).stream.0 → k < 8 → best_at (record { 0 = k }) (get_or q k []) ≡ least_in q ended n
-  least_at k e h = let m = named 8 0 (omega arith) in let z : head_in q k ≡ least_in q ended n = rw e (sym m) in rw (lt-leb 8 k h) at z
+  pub least_none : None ≡ stream_of (least_in q ended n) → None ≡ least_in q ended n
+  least_none e = go (least_in q ended n) e
+    where
+      go : (o : Option Best) → None ≡ stream_of o → None ≡ o
+      go None e = refl
+      go (Some b) e = let z : ◌≡◌ {A = ℕ} 0 1 = cc in absurd (omega arith)
+
+  pub least_at : (k : Stream) → Some k ≡ stream_of (least_in q ended n) → LeastAt k
+  least_at k e = let w = go (least_in q ended n) (named 8 0 (omega arith)) e in record { inside = w.0; is = w.1 }
+    where
+      go : (o : Option Best) → Named o → Some k ≡ stream_of o → (k.0 < 8) × (Some (best_at k (get_or q k.0 [])) ≡ o)
+      go None m e = let z : ◌≡◌ {A = ℕ} 0 1 = cc in absurd (omega arith)
+      go (Some b) m e = let z : k ≡ b.stream = cc in rw z (m.inside, ap Some m.is)
+
+  pub least_inside : (h : Best) → Some h ≡ least_in q ended n → h.stream.0 < 8
+  least_inside h e = (least_at h.stream (ap stream_of e)).inside
 
 -- of two heads, the earlier stream's is taken unless the other is sooner
 ahead_sooner : (x y : Record) (l : List ℕ) → x.stream.0 ≤ y.stream.0 → x ≡ record_from x.stream.0 l → ahead x y ≡ not (sooner (head_of y) l)
@@ -105,9 +130,9 @@ best_better i n l true xs ss none h f = rw (lt-leb n i h)
 best_better i n l true xs ss (one y rest ts) h f = rw (lt-leb n i h)
 best_better i n l false xs ss none h f = rw (lt-leb n i h)
 best_better i n l false xs ss (one y rest ts) h f =
-    rw (lt-leb n i h, ne_eqb y.stream.0 8 (λ e. omega (arith, f.1, e)), ahead_sooner (record_from i l) y l (omega (arith, f.0)) refl) (go (sooner (head_of y) l))
+    rw (lt-leb n i h, ahead_sooner (record_from i l) y l (omega (arith, f.0)) refl) (go (sooner (head_of y) l))
   where
-    go : (t : Bool) → best_of (cond (not t) (one (record_from i l) xs (xs ∷ ss)) (one y rest ((record_from i l ∷ xs) ∷ ts))) ≡ cond t (head_of y) (best_at (record { 0 = i }) l)
+    go : (t : Bool) → best_of (cond (not t) (one (record_from i l) xs (xs ∷ ss)) (one y rest ((record_from i l ∷ xs) ∷ ts))) ≡ Some (cond t (head_of y) (best_at (record { 0 = i }) l))
     go true = refl
     go false = refl
 

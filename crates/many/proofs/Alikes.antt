@@ -8,7 +8,8 @@ use lib.Dec.{eqb, leb, ltb}
 use lib.ListN.{length, set, drop, take, take-append-drop, length-drop}
 use borrow.Author.Tests.{leb-true, leb-false, ltb-true, ltb-false, eqb-true, eqb-false}
 use Rattle.rules.specs.declared.Base.{Base}
-use Rattle.rules.specs.declared.Offer.{Offer}
+use Rattle.rules.specs.Offered.{Offer}
+use Rattle.std.specs.Prelude.{Option, Some}
 use Rattle.rules.specs.declared.Answer.{Answer}
 use Rattle.rules.specs.declared.Answer.TheVariants as answer
 use Rattle.rules.specs.Call as rules
@@ -151,7 +152,7 @@ module _ (s : Cols) (lengths : List ℕ) where
         go false e more = more (omega (arith, h, eqb-false k j e))
 
     -- a base that is answered by one is not where the other stops
-    stops_here : {k u : ℕ} {p : Offer} {v : Run} {m : Lent} {ms : List ℕ} {a : Answer} {w : Run} {l' : Lent} → Passes s lengths t r l ns k u p v m ms → Ends s lengths t k u v m a w l' → Ahead k → k < length t.chrom → ⊥
+    stops_here : {k u : ℕ} {p : Offer} {v : Run} {m : Lent} {ms : List ℕ} {a : Option Answer} {w : Run} {l' : Lent} → Passes s lengths t r l ns k u p v m ms → Ends s lengths t k u v m a w l' → Ahead k → k < length t.chrom → ⊥
     stops_here q (all e) y h = absurd (omega (arith, e, h))
     stops_here {k} {u} {v = v} {m = m} q (short b z f) y h =
         let x = met q y.passes refl in
@@ -163,12 +164,12 @@ module _ (s : Cols) (lengths : List ℕ) where
         let is : a ≡ answer.Found y.i y.o = (step x.both refl (ap (λ (i : ℕ). drop i m.answers) x.free ∙ ap (drop y.u) x.answers) g y.gives).answer in
         subst Unfound is n
 
-    most : {k u : ℕ} {v : Run} {m : Lent} {a : Answer} {w : Run} {l' : Lent} → Ends s lengths t k u v m a w l' → k ≤ length t.chrom
+    most : {k u : ℕ} {v : Run} {m : Lent} {a : Option Answer} {w : Run} {l' : Lent} → Ends s lengths t k u v m a w l' → k ≤ length t.chrom
     most (all e) = omega (arith, e)
     most (short b z f) = omega (arith, b)
     most (other a w l' b z x g st) = omega (arith, b)
 
-    no_more : {k u : ℕ} {p : Offer} {v : Run} {m : Lent} {ms : List ℕ} {a : Answer} {w : Run} {l' : Lent} {k₂ u₂ : ℕ} {p₂ : Offer} {v₂ : Run} {m₂ : Lent} {ms₂ : List ℕ}
+    no_more : {k u : ℕ} {p : Offer} {v : Run} {m : Lent} {ms : List ℕ} {a : Option Answer} {w : Run} {l' : Lent} {k₂ u₂ : ℕ} {p₂ : Offer} {v₂ : Run} {m₂ : Lent} {ms₂ : List ℕ}
         → Passes s lengths t r l ns k u p v m ms → Ends s lengths t k u v m a w l' → Passes s lengths t r l ns k₂ u₂ p₂ v₂ m₂ ms₂ → k₂ ≤ length t.chrom → k < k₂ → ⊥
     no_more q e q₂ h i = stops_here q e (ahead_of q₂ i) (omega (arith, h, i))
 
@@ -182,13 +183,13 @@ module _ (s : Cols) (lengths : List ℕ) where
 
     -- ---- how it ended
 
-    record Done (a : Answer) (w : Run) (l' : Lent) (a₂ : Answer) (w₂ : Run) (l₂ : Lent) : Type 0 where
+    record Done (a : Option Answer) (w : Run) (l' : Lent) (a₂ : Option Answer) (w₂ : Run) (l₂ : Lent) : Type 0 where
       last : a ≡ a₂
       answers : l'.answers ≡ l₂.answers
       seen : run_of s l'.cells w ≡ run_of s l₂.cells w₂
       room : w.settings.room ≡ w₂.settings.room
 
-    done : {k u : ℕ} {p : Offer} {v : Run} {m : Lent} {ms : List ℕ} {a : Answer} {w : Run} {l' : Lent} {k₂ u₂ : ℕ} {p₂ : Offer} {v₂ : Run} {m₂ : Lent} {ms₂ : List ℕ} {a₂ : Answer} {w₂ : Run} {l₂ : Lent}
+    done : {k u : ℕ} {p : Offer} {v : Run} {m : Lent} {ms : List ℕ} {a : Option Answer} {w : Run} {l' : Lent} {k₂ u₂ : ℕ} {p₂ : Offer} {v₂ : Run} {m₂ : Lent} {ms₂ : List ℕ} {a₂ : Option Answer} {w₂ : Run} {l₂ : Lent}
         → Met u p v m ms u₂ p₂ v₂ m₂ ms₂ → k ≡ k₂ → Ends s lengths t k u v m a w l' → Ends s lengths t k₂ u₂ v₂ m₂ a₂ w₂ l₂ → Done a w l' a₂ w₂ l₂
     done x e (all f) (all g) = record { last = refl; answers = x.answers; seen = x.both.seen; room = x.both.room }
     done x e (all f) (short b z g) = absurd (omega (arith, e, f, b))
@@ -202,7 +203,7 @@ module _ (s : Cols) (lengths : List ℕ) where
         let y = step x.both (ap (base_at t) e) (ap (λ (i : ℕ). drop i m.answers) x.free ∙ ap (drop u₂) x.answers) g g₂ in
         let front : take u l'.answers ≡ take u l₂.answers = st ∙ ap (take u) x.answers ∙ ap (λ (i : ℕ). take i m₂.answers) x.free ∙ sym st₂ ∙ ap (λ (i : ℕ). take i l₂.answers) (sym x.free) in
         let behind-it : drop u l'.answers ≡ drop u l₂.answers = y.answers ∙ ap (λ (i : ℕ). drop i l₂.answers) (sym x.free) in
-        record { last = y.answer; answers = same_rows u front behind-it; seen = y.seen; room = y.room }
+        record { last = ap Some y.answer; answers = same_rows u front behind-it; seen = y.seen; room = y.room }
 
     even_alike : {p q : Passed} {l' m' : Lent} {ns' ms' : List ℕ} → Answers s lengths t r l ns p l' ns' → Answers s lengths t r l ns q m' ms' → AllAlike s p l' ns' q m' ms'
     even_alike {p} {q} x y =

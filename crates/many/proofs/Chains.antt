@@ -9,8 +9,8 @@ use lib.Seq.{take-suc-set, take-add}
 use Rattle.basics.specs.Build.{build}
 use Rattle.basics.proofs.BuildLaws.{build_snoc}
 use Rattle.rules.specs.declared.Base.{Base}
-use Rattle.rules.specs.declared.Offer.{Offer}
-use Rattle.rules.specs.declared.Offer.TheVariants.{Nothing}
+use Rattle.rules.specs.Offered.{Offer}
+use Rattle.std.specs.Prelude.{Option, Some, None}
 use Rattle.rules.specs.declared.Refusal.TheVariants as refusal
 use Rattle.rules.specs.declared.Answer.{Answer}
 use Rattle.rules.specs.declared.Answer.TheVariants as answer
@@ -75,7 +75,7 @@ module _ (s : Cols) (lengths : List ℕ) (t : Cols) (r : Run) (l : Lent) (ns : L
 
   -- ---- and the next
 
-  record Whole (k u : ℕ) (p : Offer) (a : Answer) (w : Run) (l' : Lent) (ms : List ℕ) : Type 0 where
+  record Whole (k u : ℕ) (p : Offer) (a : Option Answer) (w : Run) (l' : Lent) (ms : List ℕ) : Type 0 where
     os : List Came
     more : List Base
     last : List Came
@@ -85,10 +85,10 @@ module _ (s : Cols) (lengths : List ℕ) (t : Cols) (r : Run) (l : Lent) (ns : L
     rows : take u l'.answers ≡ all_rows os
     offer : p ≡ last_offer os
 
-  stays_whole : {k u : ℕ} {p : Offer} {v : Run} {m : Lent} {ms : List ℕ} → Sofar k u p v m ms → Whole k u p (answer.Found 0 Nothing) v m ms
+  stays_whole : {k u : ℕ} {p : Offer} {v : Run} {m : Lent} {ms : List ℕ} → Sofar k u p v m ms → Whole k u p None v m ms
   stays_whole y = record { os = y.os; more = []; last = []; stopped = gone; calls = calls_then y.calls none; counts = y.counts; rows = y.rows; offer = y.offer }
 
-  whole : {k u : ℕ} {p : Offer} {v : Run} {m : Lent} {ms : List ℕ} {a : Answer} {w : Run} {l' : Lent} → Sofar k u p v m ms → Ends s lengths t k u v m a w l' → Whole k u p a w l' ms
+  whole : {k u : ℕ} {p : Offer} {v : Run} {m : Lent} {ms : List ℕ} {a : Option Answer} {w : Run} {l' : Lent} → Sofar k u p v m ms → Ends s lengths t k u v m a w l' → Whole k u p a w l' ms
   whole y (all e) = stays_whole y
   whole y (short b z f) = stays_whole y
   whole {k} {u} {p} {v} {m} {ms} y (other a w l' b z x g st) = go (is_sizes a)
@@ -96,12 +96,12 @@ module _ (s : Cols) (lengths : List ℕ) (t : Cols) (r : Run) (l : Lent) (ns : L
       rows_stay : take u l'.answers ≡ all_rows y.os
       rows_stay = st ∙ y.rows
 
-      go : (a ≡ answer.Refused refusal.Sizes) ⊎ (a ≡ answer.Refused refusal.Sizes → ⊥) → Whole k u p a w l' ms
+      go : (a ≡ answer.Refused refusal.Sizes) ⊎ (a ≡ answer.Refused refusal.Sizes → ⊥) → Whole k u p (Some a) w l' ms
       go (inl e) = record {
         os = y.os;
         more = [];
         last = [];
-        stopped = subst (λ (i : Answer). Stopped (base_at t k) i [] []) (sym e) uncounted;
+        stopped = subst (λ (i : Answer). Stopped (base_at t k) (Some i) [] []) (sym e) uncounted;
         calls = calls_then y.calls (unheeded (drop u m.answers) (record { run = w; answer = a }) (behind u l') g e none);
         counts = y.counts;
         rows = rows_stay;
@@ -118,7 +118,7 @@ module _ (s : Cols) (lengths : List ℕ) (t : Cols) (r : Run) (l : Lent) (ns : L
         offer = y.offer;
       }
 
-  most : {k u : ℕ} {v : Run} {m : Lent} {a : Answer} {w : Run} {l' : Lent} → Ends s lengths t k u v m a w l' → k ≤ length t.chrom
+  most : {k u : ℕ} {v : Run} {m : Lent} {a : Option Answer} {w : Run} {l' : Lent} → Ends s lengths t k u v m a w l' → k ≤ length t.chrom
   most (all e) = omega (arith, e)
   most (short b z f) = omega (arith, b)
   most (other a w l' b z x g st) = omega (arith, b)

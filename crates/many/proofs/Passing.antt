@@ -11,8 +11,8 @@ use borrow.Rule.Slice.PartMut.{mid_of, put_mid, take_put}
 use Rattle.basics.proofs.BoolLaws.{and_left, and_also, clash}
 use Rattle.rules.specs.declared.Base.{Base}
 use Rattle.rules.specs.declared.End.{End}
-use Rattle.rules.specs.declared.Offer.{Offer}
-use Rattle.rules.specs.declared.Offer.TheVariants.{Nothing}
+use Rattle.rules.specs.Offered.{Offer}
+use Rattle.std.specs.Prelude.{Option, Some, None}
 use Rattle.rules.specs.declared.Refusal.{Refusal}
 use Rattle.rules.specs.declared.Stage.TheVariants.{After}
 use Rattle.rules.specs.declared.Answer.{Answer}
@@ -37,7 +37,7 @@ use Rattle.step.specs.Give.{Gives}
 use Rattle.step.specs.Step.{Ready, Steps}
 use Rattle.demands.specs.Calls.{Blameless}
 use Rattle.demands.proofs.RunAnswers.{fits_so}
-use Rattle.demands.proofs.ComesBack.{right_blameless, comes_back}
+use Rattle.demands.proofs.ComesBack.{right_blameless, comes_back, comes_sized}
 use Rattle.many.specs.declared.Passed.{Passed}
 use Rattle.many.specs.Many.{base_at, behind, Stays, Passes, none, one, Ends, all, short, other, Even, Answers}
 use Rattle.many.specs.Inner.{Passable}
@@ -108,24 +108,24 @@ pub record Passing (j : Job) (h : Heads) (q : Ring) (x : Mark) (p : Offer) (u k 
   pub counts : length ms ≡ length j.ns
 
 -- the next base can be given, and nothing stopped those ahead of it
-pub record Next (j : Job) (a : Answer) (h : Heads) (q : Ring) (x : Mark) (p : Offer) (u k : ℕ) (m : Lent) (ms : List ℕ) : Type 0 where
+pub record Next (j : Job) (a : Option Answer) (h : Heads) (q : Ring) (x : Mark) (p : Offer) (u k : ℕ) (m : Lent) (ms : List ℕ) : Type 0 where
   pub passing : Passing j h q x p u k m ms
   pub below : k < length j.t.chrom
   pub enough : j.v.settings.room ≤ length m.answers - u
-  pub nothing : a ≡ answer.Found 0 Nothing
+  pub nothing : a ≡ None
 
 -- at a turn: where it goes on, the next base can be given; else this is what came of it
-pub record Turn (j : Job) (go : Bool) (a : Answer) (h : Heads) (q : Ring) (x : Mark) (p : Offer) (u k : ℕ) (m : Lent) (ms : List ℕ) : Type 0 where
+pub record Turn (j : Job) (go : Bool) (a : Option Answer) (h : Heads) (q : Ring) (x : Mark) (p : Offer) (u k : ℕ) (m : Lent) (ms : List ℕ) : Type 0 where
   pub on : go ≡ true → Next j a h q x p u k m ms
   pub off : go ≡ false → Gets j (record { run = run_in h j.v.settings.chroms q x; bases = k; records = u; offer = p; last = a }) m ms
   pub kept : Kept j.l.cells m.cells
   pub answers : length m.answers ≡ length j.l.answers
   pub counts : length ms ≡ length j.ns
 
-pub begins : (j : Job) → Passable j.s j.lengths j.t j.v j.l j.ns → Shaped (heads_of j.v) → (h : Heads) → h ≡ heads_of j.v → (q : Ring) → q ≡ ring_of j.v → Turn j true (answer.Found 0 Nothing) h q j.v.mark Nothing 0 0 j.l j.ns
+pub begins : (j : Job) → Passable j.s j.lengths j.t j.v j.l j.ns → Shaped (heads_of j.v) → (h : Heads) → h ≡ heads_of j.v → (q : Ring) → q ≡ ring_of j.v → Turn j true None h q j.v.mark None 0 0 j.l j.ns
 begins j z shaped h i q e = rw (i, e) (record { on = λ y. first; off = λ y. absurd (clash refl y); kept = refl; answers = refl; counts = refl })
   where
-    first : Next j (answer.Found 0 Nothing) (heads_of j.v) (ring_of j.v) j.v.mark Nothing 0 0 j.l j.ns
+    first : Next j None (heads_of j.v) (ring_of j.v) j.v.mark None 0 0 j.l j.ns
     first = record {
       passing = record {
         passes = none;
@@ -149,25 +149,25 @@ begins j z shaped h i q e = rw (i, e) (record { on = λ y. first; off = λ y. ab
 -- after a base was answered: whether there is a further one and rows for it
 module _ {j : Job} {h : Heads} {q : Ring} {x : Mark} {p : Offer} {u k : ℕ} {m : Lent} {ms : List ℕ} (z : Passing j h q x p u k m ms) (some : 0 < k) (y : Bool)
     (is : y ≡ ltb k (length j.t.chrom) && leb j.v.settings.room (length m.answers - u)) where
-  goes : y ≡ true → Next j (answer.Found 0 Nothing) h q x p u k m ms
+  goes : y ≡ true → Next j None h q x p u k m ms
   goes e =
       let w : ltb k (length j.t.chrom) && leb j.v.settings.room (length m.answers - u) ≡ true = sym is ∙ e in
       record { passing = z; below = ltb-true _ _ (and_left _ _ w); enough = leb-true _ _ (and_also (ltb k (length j.t.chrom)) _ w); nothing = refl }
 
   -- there is none, or there are too few rows
-  stops : y ≡ false → Gets j (record { run = run_in h j.v.settings.chroms q x; bases = k; records = u; offer = p; last = answer.Found 0 Nothing }) m ms
+  stops : y ≡ false → Gets j (record { run = run_in h j.v.settings.chroms q x; bases = k; records = u; offer = p; last = None }) m ms
   stops e = record { run = run_in h j.v.settings.chroms q x; lent = m; passes = z.passes; ends = go (ltb k (length j.t.chrom)) refl (sym is ∙ e) }
     where
       go : (c : Bool) → ltb k (length j.t.chrom) ≡ c → c && leb j.v.settings.room (length m.answers - u) ≡ false
-          → Ends j.s j.lengths j.t k u (run_in h j.v.settings.chroms q x) m (answer.Found 0 Nothing) (run_in h j.v.settings.chroms q x) m
+          → Ends j.s j.lengths j.t k u (run_in h j.v.settings.chroms q x) m None (run_in h j.v.settings.chroms q x) m
       go true i f = short (ltb-true k (length j.t.chrom) i) some (omega (arith, leb-false j.v.settings.room (length m.answers - u) f, z.free, z.room))
       go false i f = all (omega (arith, ltb-false k (length j.t.chrom) i, z.most))
 
-  turns : {a : Answer} → a ≡ answer.Found 0 Nothing → Turn j y a h q x p u k m ms
+  turns : {a : Option Answer} → a ≡ None → Turn j y a h q x p u k m ms
   turns e = rw e (record { on = goes; off = stops; kept = z.kept; answers = z.answers; counts = z.counts })
 
 -- the next one is given
-module _ {j : Job} {w : Answer} {h : Heads} {q : Ring} {x : Mark} {p : Offer} {u k : ℕ} {m : Lent} {ms : List ℕ} (n : Next j w h q x p u k m ms) where
+module _ {j : Job} {w : Option Answer} {h : Heads} {q : Ring} {x : Mark} {p : Offer} {u k : ℕ} {m : Lent} {ms : List ℕ} (n : Next j w h q x p u k m ms) where
   abbrev z : Passing j h q x p u k m ms
   z = n.passing
 
@@ -214,7 +214,7 @@ module _ {j : Job} {w : Answer} {h : Heads} {q : Ring} {x : Mark} {p : Offer} {u
     over_is e = rw (z.like.from, z.like.to, z.like.streams, z.room)
 
     -- the run ended
-    pub over_out : (e : End) → a.answer ≡ answer.Ended e → Gets j (record { run = over_of j.v e; bases = k; records = u; offer = p; last = answer.Ended e }) l' ms
+    pub over_out : (e : End) → a.answer ≡ answer.Ended e → Gets j (record { run = over_of j.v e; bases = k; records = u; offer = p; last = Some (answer.Ended e) }) l' ms
     over_out e i = record {
       run = r;
       lent = m;
@@ -229,7 +229,7 @@ module _ {j : Job} {w : Answer} {h : Heads} {q : Ring} {x : Mark} {p : Offer} {u
       same = put_length u m.answers rs z.free whole
 
       -- it was refused
-      pub refused_out : (y : Refusal) → a.answer ≡ answer.Refused y → Turn j false (answer.Refused y) h' q x p u k l' ms
+      pub refused_out : (y : Refusal) → a.answer ≡ answer.Refused y → Turn j false (Some (answer.Refused y)) h' q x p u k l' ms
       refused_out y e = record {
         on = λ i. absurd (clash i refl);
         off = λ i. record {
@@ -260,8 +260,13 @@ module _ {j : Job} {w : Answer} {h : Heads} {q : Ring} {x : Mark} {p : Offer} {u
         pub more_place : u + i ≤ length j.l.answers
         more_place = omega (arith, more_fit, same, z.answers)
 
-        goes_on : Like j h' → (y : Mark) → y ≡ mark_of (After b) → Passing j h' a.ring y o (u + i) (k + 1) l' (set ms k i)
-        goes_on like y d = subst (λ (y' : Mark). Passing j h' a.ring y' o (u + i) (k + 1) l' (set ms k i)) (ap (λ (y' : Base). mark_of (After y')) (sym bs) ∙ sym d) (record {
+        like : Like j h'
+        like =
+            let z' = comes_sized j.s j.lengths r (base_at j.t k) (behind u m) g (behind u l') gives right z.shaped in
+            record { from = z'.from ∙ z.like.from; to = z'.to ∙ z.like.to; streams = z'.streams ∙ z.like.streams }
+
+        goes_on : (y : Mark) → y ≡ mark_of (After b) → Passing j h' a.ring y o (u + i) (k + 1) l' (set ms k i)
+        goes_on y d = subst (λ (y' : Mark). Passing j h' a.ring y' o (u + i) (k + 1) l' (set ms k i)) (ap (λ (y' : Base). mark_of (After y')) (sym bs) ∙ sym d) (record {
           passes = one i o g.run l' z.passes gives stays;
           blameless = back.0;
           shaped = back.1;
@@ -276,6 +281,6 @@ module _ {j : Job} {w : Answer} {h : Heads} {q : Ring} {x : Mark} {p : Offer} {u
           counts = length-set ms k i ∙ z.counts;
         })
 
-        pub found_out : Like j h' → (y : Mark) → y ≡ mark_of (After b) → (go : Bool) → go ≡ ltb (k + 1) (length j.t.chrom) && leb j.v.settings.room (length l'.answers - (u + i))
+        pub found_out : (y : Mark) → y ≡ mark_of (After b) → (go : Bool) → go ≡ ltb (k + 1) (length j.t.chrom) && leb j.v.settings.room (length l'.answers - (u + i))
             → Turn j go w h' a.ring y o (u + i) (k + 1) l' (set ms k i)
-        found_out like y d go is = turns (goes_on like y d) (omega arith) go is n.nothing
+        found_out y d go is = turns (goes_on y d) (omega arith) go is n.nothing

@@ -9,7 +9,7 @@ use lib.ListN.{length}
 use borrow.Author.Tests.{leb-true, le-leb, eqb-true, eqb-false, eq-eqb}
 use Rattle.basics.proofs.BoolLaws.{and_left, and_also, clash}
 use Rattle.rules.specs.declared.End.{End}
-use Rattle.rules.specs.declared.Offer.TheVariants.{Nothing}
+use Rattle.std.specs.Prelude.{Some, None}
 use Rattle.rules.specs.declared.Refusal.TheVariants.{Sizes}
 use Rattle.rules.specs.declared.Stage.{Stage}
 use Rattle.rules.specs.declared.Stage.TheVariants.{Fresh, After, Over}
@@ -90,31 +90,31 @@ module _ {s : Cols} {lengths : List ℕ} {t : Cols} {r : Run} {l : Lent} {ns : L
   by_even : (p : Passed) (l' : Lent) (ns' : List ℕ) → Even t ns → Answers s lengths t r l ns p l' ns' → GivesAll s lengths t r l ns p l' ns'
   by_even p l' ns' e a = record { even = λ z. a; uneven = λ z. absurd (z e) }
 
-  by_uneven : (a : Answer) → uneven_by (stage_of r) ≡ a → (Even t ns → ⊥) → GivesAll s lengths t r l ns (none_passed r a) l ns
-  by_uneven a e f = record { even = λ z. absurd (f z); uneven = λ z. record { passed = ap (none_passed r) (sym e); lent = refl; counts = refl } }
+  by_uneven : (a : Answer) → uneven_by (stage_of r) ≡ a → (Even t ns → ⊥) → GivesAll s lengths t r l ns (none_passed r (Some a)) l ns
+  by_uneven a e f = record { even = λ z. absurd (f z); uneven = λ z. record { passed = ap (λ (x : Answer). none_passed r (Some x)) (sym e); lent = refl; counts = refl } }
 
   -- the test of the columns, as it came out
   module _ (y : Bool) (is : y ≡ test t ns) where
     -- no base
-    pub none_given : y && eqb (length t.chrom) 0 ≡ true → (p : Passed) → p ≡ none_passed r (answer.Found 0 Nothing) → GivesAll s lengths t r l ns p l ns
+    pub none_given : y && eqb (length t.chrom) 0 ≡ true → (p : Passed) → p ≡ none_passed r None → GivesAll s lengths t r l ns p l ns
     none_given e p ps = subst (λ (x : Passed). GivesAll s lengths t r l ns x l ns) (sym ps)
-        (by_even (none_passed r (answer.Found 0 Nothing)) l ns (even_so t ns y is (and_left y (eqb (length t.chrom) 0) e))
+        (by_even (none_passed r None) l ns (even_so t ns y is (and_left y (eqb (length t.chrom) 0) e))
         (record { run = r; lent = l; passes = none; ends = all (sym (eqb-true (length t.chrom) 0 (and_also y (eqb (length t.chrom) 0) e))) }))
 
     -- the first base gets no records, the run stays as it is and so does all that was lent
-    first_other : y && eqb (length t.chrom) 0 ≡ false → y ≡ true → (a : Answer) → Unfound a → Gives s lengths r (base_at t 0) l (record { run = r; answer = a }) l → GivesAll s lengths t r l ns (none_passed r a) l ns
-    first_other e i a u g = by_even (none_passed r a) l ns (even_so t ns y is i) (record { run = r; lent = l; passes = none; ends = other a r l (some t y e i) (λ j. absurd (omega (arith, j))) u g refl })
+    first_other : y && eqb (length t.chrom) 0 ≡ false → y ≡ true → (a : Answer) → Unfound a → Gives s lengths r (base_at t 0) l (record { run = r; answer = a }) l → GivesAll s lengths t r l ns (none_passed r (Some a)) l ns
+    first_other e i a u g = by_even (none_passed r (Some a)) l ns (even_so t ns y is i) (record { run = r; lent = l; passes = none; ends = other a r l (some t y e i) (λ j. absurd (omega (arith, j))) u g refl })
 
     -- "an ended run first (its old answer again)"
-    pub over_given : y && eqb (length t.chrom) 0 ≡ false → (f : End) → stage_of r ≡ Over f → (p : Passed) → p ≡ none_passed r (answer.Ended f) → GivesAll s lengths t r l ns p l ns
+    pub over_given : y && eqb (length t.chrom) 0 ≡ false → (f : End) → stage_of r ≡ Over f → (p : Passed) → p ≡ none_passed r (Some (answer.Ended f)) → GivesAll s lengths t r l ns p l ns
     over_given e f i p ps = subst (λ (x : Passed). GivesAll s lengths t r l ns x l ns) (sym ps) (go y refl)
       where
-        go : (c : Bool) → y ≡ c → GivesAll s lengths t r l ns (none_passed r (answer.Ended f)) l ns
+        go : (c : Bool) → y ≡ c → GivesAll s lengths t r l ns (none_passed r (Some (answer.Ended f))) l ns
         go true j = first_other e j (answer.Ended f) tt (over_so s lengths r (base_at t 0) l f i)
         go false j = by_uneven (answer.Ended f) (ap uneven_by i) (uneven_so t ns y is j)
 
     -- "then 1"
-    module _ (going : Going (stage_of r)) (p : Passed) (ps : p ≡ none_passed r (answer.Refused Sizes)) where
+    module _ (going : Going (stage_of r)) (p : Passed) (ps : p ≡ none_passed r (Some (answer.Refused Sizes))) where
       pub uneven_given : y ≡ false → GivesAll s lengths t r l ns p l ns
       uneven_given i = subst (λ (x : Passed). GivesAll s lengths t r l ns x l ns) (sym ps) (by_uneven (answer.Refused Sizes) (goes_uneven (stage_of r) going) (uneven_so t ns y is i))
 

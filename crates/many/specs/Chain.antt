@@ -2,7 +2,7 @@
 use Rattle.std.specs.Prelude.{◌≡◌, List, [], ◌∷◌, ◌++◌, map, ℕ, take}
 use Rattle.basics.specs.Build.{build}
 use Rattle.rules.specs.declared.Base.{Base}
-use Rattle.rules.specs.declared.Offer.TheVariants.{Nothing}
+use Rattle.std.specs.Prelude.{Option, Some, None}
 use Rattle.rules.specs.declared.Refusal.TheVariants.{Sizes}
 use Rattle.rules.specs.declared.Answer.{Answer}
 use Rattle.rules.specs.declared.Answer.TheVariants as answer
@@ -15,10 +15,10 @@ use Rattle.many.specs.Many.{base_at, Unfound}
 
 -- what became of b, the base behind the answered ones: nothing; it was refused by 1, and "a base refused by 1 counts there as not given"; it was given, and
 -- got no records
-pub data Stopped (b : Base) : Answer → List Base → List Came → Type 0 where
-  gone : Stopped b (answer.Found 0 Nothing) [] []
-  uncounted : Stopped b (answer.Refused Sizes) [] []
-  next : (a : Answer) (old new : List (List ℕ)) → Unfound a → Stopped b a (b ∷ []) (came a old new ∷ [])
+pub data Stopped (b : Base) : Option Answer → List Base → List Came → Type 0 where
+  gone : Stopped b None [] []
+  uncounted : Stopped b (Some (answer.Refused Sizes)) [] []
+  next : (a : Answer) (old new : List (List ℕ)) → Unfound a → Stopped b (Some a) (b ∷ []) (came a old new ∷ [])
 
 -- of the bases t: what came of those that were answered, of the one that stopped them if it was given, and the calls that gave them all; the answered
 -- ones' counts stand at the front of the counts, their rows, one behind the other, at the front of the answer rows, and the offer is that of the last of them

@@ -1,5 +1,4 @@
-// Small words of numbers that many crates need, each said once: a number as a place, whether sizes are kept to, how far a base reaches, how
-// long a record lasts, the numbers of refusals.
+// Tests that many crates need, each said once: how far a base reaches, how long a record lasts.
 #![tactic(auto)]
 
 ghost use Rattle.std.specs.Prelude.{◌≡◌};
@@ -8,6 +7,20 @@ ghost use Rattle.rules.specs.Overlap.{reaches, lasts};
 ghost use Rattle.rules.specs.Numbers.{refusal_number, end_number};
 
 use rules::{End, Refusal, Settings};
+
+// Whether a base that ends at `until` reaches a record of its chromosome that starts at `start`.
+pub fn reaches(until: u64, start: u64) -> bool
+    ensures { result ≡ reaches until start }
+{
+    start < until
+}
+
+// Whether a record that ends at `stop` lasts to a base of its chromosome that starts at `from`.
+pub fn lasts(from: u64, stop: u64) -> bool
+    ensures { result ≡ lasts from stop }
+{
+    from < stop
+}
 
 // A place, or a count of rows or streams, as a number.
 pub fn number(x: usize) -> u64
@@ -27,47 +40,19 @@ pub fn place_in(x: u64) -> usize
 pub fn is_sized(s: Settings) -> bool
     ensures { result ≡ sized s }
 {
-    let few = (1 <= s.streams) & (s.streams <= Settings::STREAMS);
-    let listed = (1 <= s.chroms) & (s.chroms <= Settings::CHROMS);
-    let roomy = (1 <= s.room) & (s.room <= Settings::ROOM);
-    few & (listed & roomy)
-}
-
-// Whether a base that ends at `until` reaches a record of its chromosome that starts at `start`.
-pub fn reaches(until: u64, start: u64) -> bool
-    ensures { result ≡ reaches until start }
-{
-    start < until
-}
-
-// Whether a record that ends at `stop` lasts to a base of its chromosome that starts at `from`.
-pub fn lasts(from: u64, stop: u64) -> bool
-    ensures { result ≡ lasts from stop }
-{
-    from < stop
+    s.is_sized()
 }
 
 // The number of a refusal that leaves the run unchanged.
 pub fn refusal_number(x: Refusal) -> u64
     ensures { result ≡ refusal_number x }
 {
-    match x {
-        Refusal::Sizes => 1,
-        Refusal::Beyond => 3,
-        Refusal::Unlisted => 4,
-        Refusal::Unordered => 5,
-        Refusal::Reversed => 6,
-    }
+    x.number()
 }
 
 // The number of the refusal that ended a run.
 pub fn end_number(e: End) -> u64
     ensures { result ≡ end_number e }
 {
-    match e {
-        End::Faulty(_, _) => 7,
-        End::Unsorted(_, _) => 8,
-        End::NoRoom => 9,
-        End::NoRows => 10,
-    }
+    e.number()
 }

@@ -3,14 +3,12 @@ use mathlib.Core.Path.{◌≡◌, refl, ap}
 use mathlib.Core.Bool.{Bool, true, false, cond}
 use mathlib.Core.Option.{Option}
 use mathlib.Core.List.{List, [], ◌∷◌}
-use Prim.Native.Nat.{◌<◌}
-use native.Mathlib.Omega.{arith}
 use lib.Dec.{ltb, eqb}
-use borrow.Author.Tests.{eqb-true, ne_eqb}
+use borrow.Author.Tests.{eqb-true}
 use Rattle.basics.specs.Lists.{keep, first_one, first, All, cons}
 use Rattle.basics.proofs.BoolLaws.{and_left}
 use Rattle.rules.specs.declared.Base.{Base}
-use Rattle.rules.specs.declared.Offer.TheVariants as offers
+use Rattle.std.specs.Prelude.{None}
 use Rattle.rules.specs.Rows.{Record}
 use Rattle.rules.specs.Merge.{Pick, none, one, pick, onto}
 use Rattle.rules.specs.Streams.{ahead}
@@ -29,25 +27,20 @@ live_place b r e =
     rw on
 
 module _ (b : Base) (left : List (List Record)) where
-  -- the heads are on streams below 8
-  abbrev pub Below : Type 0
-  Below = (a : Record) (rest : List Record) (ts : List (List Record)) → pick ahead left ≡ one a rest ts → a.stream.0 < 8
-
-  by_head : Below → (o : Pick Record) → pick ahead left ≡ o
-      → place_for b (target_by b (front_of Option.none) (best_of o)) ≡ place_for b (first (awaited b) (onto (λ ts. []) o))
-  by_head low none e = refl
-  by_head low (one a rest ts) e = rw (ne_eqb a.stream.0 8 (λ q. absurd (omega (arith, low a rest ts e)))) (go (awaited b a))
+  by_head : (o : Pick Record) → place_for b (target_by b (front_of Option.none) (best_of o)) ≡ place_for b (first (awaited b) (onto (λ ts. []) o))
+  by_head none = refl
+  by_head (one a rest ts) = go (awaited b a)
     where
       go : (u : Bool) → place_for b (cond u (Option.some (start_at a.it.chrom a.it.start)) Option.none) ≡ place_for b (first_one (keep u a []))
       go true = refl
       go false = refl
 
-  by_both : Below → (queue : List Record) → All (λ r. live b r ≡ true) queue
+  by_both : (queue : List Record) → All (λ r. live b r ≡ true) queue
       → place_for b (target_by b (front_of (first_one queue)) (best_of (pick ahead left))) ≡ place_for b (first (awaited b) (coming left queue))
-  by_both low [] h = by_head low (pick ahead left) refl
-  by_both low (r ∷ queue) (cons e h) = rw (overlap_laws.waits b b r (overlap_laws.same b) e) (live_place b r e)
+  by_both [] h = by_head (pick ahead left)
+  by_both (r ∷ queue) (cons e h) = rw (overlap_laws.waits b b r (overlap_laws.same b) e) (live_place b r e)
 
   -- what waits is live for the base
-  pub offer_by_lem : Below → (queue : List Record) → All (λ r. live b r ≡ true) queue → offer_by b (front_of (first_one queue)) (best_of (pick ahead left)) ≡ offer (coming left queue) b
+  pub offer_by_lem : (queue : List Record) → All (λ r. live b r ≡ true) queue → offer_by b (front_of (first_one queue)) (best_of (pick ahead left)) ≡ offer (coming left queue) b
   unfolding offer_by offer
-  offer_by_lem low queue h = ap (λ (o : _). cond (ltb b.start b.stop) o offers.Nothing) (by_both low queue h)
+  offer_by_lem queue h = ap (λ (o : _). cond (ltb b.start b.stop) o None) (by_both queue h)

@@ -22,13 +22,15 @@ use Rattle.rules.specs.Pull.{Pull, paused, ends, pull}
 use Rattle.rules.specs.Offer.{offer}
 use Rattle.rules.specs.Call.{coming}
 use Rattle.least.specs.declared.Best.{Best}
+use Rattle.std.specs.Prelude.{Result, Ok, Err}
+use Rattle.std.specs.Prelude as std
 use Rattle.heads.specs.declared.Taken.{Taken}
 use Rattle.heads.specs.declared.Move.{Move}
 use Rattle.heads.specs.declared.Move.TheVariants as move
 use Rattle.heads.specs.View.{Cols, Heads, rests_of}
 use Rattle.heads.specs.Move.{turn_of, moved, taken_record}
 use Rattle.heads.proofs.RestLaws.{on_move, queued, pull_move}
-use Rattle.heads.proofs.TurnLaws.{Turning, Takes, turn_here, stays_best, least_below}
+use Rattle.heads.proofs.TurnLaws.{Turning, Takes, turn_here, stays_best}
 use Rattle.queue.specs.declared.Ring.{Ring}
 use Rattle.queue.specs.Ring.{Cells, Fair, record_of, waiting}
 use Rattle.queue.specs.Deeds.{front_of}
@@ -40,10 +42,10 @@ use Rattle.pulls.specs.Pulls.{after_turns, drawn_to, Kept, Lent, lent, Drawable,
 -- ---- the heads
 
 -- where no head is to be taken the heads stay
-turns_stay : (s : Cols) (n : ℕ) (b : Base) (k : ℕ) (h : Heads) (x : Best) → turn_of s n b h ≡ move.Stay x → after_turns s n b k h ≡ h
+turns_stay : (s : Cols) (n : ℕ) (b : Base) (k : ℕ) (h : Heads) (x : std.Option Best) → turn_of s n b h ≡ Ok (move.Stay x) → after_turns s n b k h ≡ h
 unfolding after_turns
 turns_stay s n b zero h x e = refl
-turns_stay s n b (suc k) h x e = ap (λ (m : Move). after_turns s n b k (moved h m)) e ∙ turns_stay s n b k h x e
+turns_stay s n b (suc k) h x e = ap (λ (m : Result Move End). after_turns s n b k (moved h m)) e ∙ turns_stay s n b k h x e
 
 -- a turn that leaves one row less is one of the turns
 turns_next : (s : Cols) (n : ℕ) (b : Base) (h g : Heads) → moved h (turn_of s n b h) ≡ g → total (rests_of s h) ≡ suc (total (rests_of s g)) → drawn_to s n b h ≡ drawn_to s n b g
@@ -87,11 +89,11 @@ module _ (s : Cols) (n : ℕ) (h : Heads) (b : Base) (q : Ring) (l : Lent) where
   }
 
   module _ (u : Heads) (w : Ring) (c : Cells) (d : Drawing u w c) where
-    abbrev pub here : Move
+    abbrev pub here : Result Move End
     here = turn_here s u d.turning n b
 
     -- a turn of the pull
-    pub on_move_lem : (m : Move) → m ≡ here → from u (waiting w c) ≡ on_move s u n b NoRoom q.room (waiting w c) m
+    pub on_move_lem : (m : Result Move End) → m ≡ here → from u (waiting w c) ≡ on_move s u n b NoRoom q.room (waiting w c) m
     on_move_lem m e = pull_move s u d.turning.shaped d.turning.placed.few n b NoRoom q.room (waiting w c) ∙ ap (on_move s u n b NoRoom q.room (waiting w c)) (sym e)
 
     -- what waits after a head was taken
@@ -120,7 +122,7 @@ module _ (s : Cols) (n : ℕ) (h : Heads) (b : Base) (q : Ring) (l : Lent) where
         go false f = nil
 
     -- a head was taken: g are the heads after it
-    pub steps : (m : Move) → m ≡ here → (t : Taken) (g : Heads) → Takes s b u t g → moved u m ≡ g
+    pub steps : (m : Result Move End) → m ≡ here → (t : Taken) (g : Heads) → Takes s b u t g → moved u m ≡ g
         → on_move s u n b NoRoom q.room (waiting w c) m ≡ queued n b NoRoom q.room (waiting w c) t (rests_of s g)
         → (w' : Ring) (c' : Cells) → KeptAs w c t w' c' → Drawing g w' c'
     steps m e t g k to-g on w' c' p = record {
@@ -142,7 +144,7 @@ module _ (s : Cols) (n : ℕ) (h : Heads) (b : Base) (q : Ring) (l : Lent) where
     ends_so e c' r k is same = rw (is, same) (record { answer = refl; found = λ z. absurd z; kept = k; answers = refl })
 
     -- no head is to be taken: the base is answered
-    pub stays_so : Drawable s h b q l → (m : Move) → m ≡ here → (x : Best) → m ≡ move.Stay x → (a : Answer) (r : List (List ℕ)) → Reports w c x b l.answers a r
+    pub stays_so : Drawable s h b q l → (m : Result Move End) → m ≡ here → (x : std.Option Best) → m ≡ Ok (move.Stay x) → (a : Answer) (r : List (List ℕ)) → Reports w c x b l.answers a r
         → DrawsAs s n h b q l (record { ring = w; answer = a }) u (lent c r)
     stays_so z m e x i a r k = rw is_paused (rw few (record {
       answer = k.answer ∙ rw place;
@@ -159,7 +161,7 @@ module _ (s : Cols) (n : ℕ) (h : Heads) (b : Base) (q : Ring) (l : Lent) where
 
         place : offer_by b (front_of (first_one (waiting w c))) x ≡ offer (coming (rests_of s u) (waiting w c)) b
         place = ap (offer_by b (front_of (first_one (waiting w c)))) (stays_best s u d.turning n b m e x i)
-            ∙ offer_by_lem b (rests_of s u) (least_below s u d.turning n b) (waiting w c) d.cleared
+            ∙ offer_by_lem b (rests_of s u) (waiting w c) d.cleared
 
         last_heads : drawn_to s n b h ≡ u
         last_heads = sym d.draws ∙ turns_stay s n b (total (rests_of s u)) u x (sym e ∙ i)

@@ -11,7 +11,9 @@ use Rattle.rules.specs.declared.Answer.{Answer}
 use Rattle.rules.specs.declared.Answer.TheVariants as answer
 use Rattle.least.specs.declared.Best.{Best}
 use Rattle.heads.specs.declared.Taken.{Taken}
-use Rattle.heads.specs.declared.Then.{Then}
+use Rattle.heads.specs.declared.Next.{Next}
+use Rattle.std.specs.Prelude.{Result, Ok, Err}
+use Rattle.std.specs.Prelude as std
 use Rattle.heads.specs.declared.Move.{Move}
 use Rattle.heads.specs.declared.Move.TheVariants as move
 use Rattle.heads.specs.View.{Cols, Heads, rests_of}
@@ -52,17 +54,17 @@ module _ (s : Cols) (n : ℕ) (h : Heads) (b : Base) (q : Ring) (l : Lent) where
     }
 
     -- what `decide` answered
-    module _ (t : Move) (is : t ≡ turn_of s n b u) where
-      pub stay_out : (x : Best) → t ≡ move.Stay x → (a : Answer) (r : List (List ℕ)) → Reports w m.cells x b m.answers a r → DrawsAs s n h b q l (record { ring = w; answer = a }) u (lent m.cells r)
+    module _ (t : Result Move End) (is : t ≡ turn_of s n b u) where
+      pub stay_out : (x : std.Option Best) → t ≡ Ok (move.Stay x) → (a : Answer) (r : List (List ℕ)) → Reports w m.cells x b m.answers a r → DrawsAs s n h b q l (record { ring = w; answer = a }) u (lent m.cells r)
       stay_out x e a r j = stays_so s n h b q l u w m.cells k.drawing k.asked t is x e a r (rw k.answers at j)
 
-      pub wrong_out : (e : End) → t ≡ move.Wrong e → DrawsAs s n h b q l (record { ring = w; answer = answer.Ended e }) u m
+      pub wrong_out : (e : End) → t ≡ Err e → DrawsAs s n h b q l (record { ring = w; answer = answer.Ended e }) u m
       wrong_out e i =
           ends_so s n h b q l u w m.cells k.drawing e m.cells m.answers k.drawing.kept
           (sym k.drawing.pulls ∙ on_move_lem s n h b q l u w m.cells k.drawing t is ∙ ap (on_move s u n b NoRoom q.room (waiting w m.cells)) i) k.answers
 
       -- a head was taken
-      module _ (a : Taken) (y : Then) (e : t ≡ move.Takes a y) where
+      module _ (a : Taken) (y : std.Option Next) (e : t ≡ Ok (move.Takes a y)) where
         on : on_move s u n b NoRoom q.room (waiting w m.cells) t ≡ queued n b NoRoom q.room (waiting w m.cells) a (rests_of s (turn_at u a.stream.0 y))
         on = ap (on_move s u n b NoRoom q.room (waiting w m.cells)) e
 

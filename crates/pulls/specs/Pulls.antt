@@ -16,8 +16,7 @@ use Rattle.heads.specs.View.{Cols, Heads, rests_of}
 use Rattle.heads.specs.Move.{turn_of, moved, Placed, Shaped}
 use Rattle.queue.specs.declared.Ring.{Ring}
 use Rattle.queue.specs.declared.Slot.{Slot}
-use Rattle.queue.specs.declared.Pushed.{Pushed}
-use Rattle.queue.specs.declared.Pushed.TheVariants.{Done, Full}
+use Rattle.std.specs.Prelude.{Option, Some, None}
 use Rattle.queue.specs.Ring.{Cells, Fair, record_of, waiting}
 use Rattle.queue.specs.Deeds.{answer_row}
 use Rattle.pulls.specs.declared.Answered.{Answered}
@@ -107,9 +106,9 @@ pub record FullAs (q : Ring) (c : Cells) (t : Taken) (c' : Cells) : Type 0 where
   pub same : c' ≡ c
 
 -- one of the two, by the answer
-pub record Keeps (q : Ring) (c : Cells) (t : Taken) (p : Pushed) (c' : Cells) : Type 0 where
-  pub done : (w : Ring) → p ≡ Done w → KeptAs q c t w c'
-  pub full : p ≡ Full → FullAs q c t c'
+pub record Keeps (q : Ring) (c : Cells) (t : Taken) (p : Option Ring) (c' : Cells) : Type 0 where
+  pub done : (w : Ring) → p ≡ Some w → KeptAs q c t w c'
+  pub full : p ≡ None → FullAs q c t c'
 
 -- what a pull comes to
 abbrev pub DrawsAs : Cols → ℕ → Heads → Base → Ring → Lent → Answered → Heads → Lent → Type 0

@@ -14,19 +14,18 @@ use Rattle.rules.specs.declared.Base.{Base}
 use Rattle.rules.specs.Overlap.{overlaps}
 use Rattle.queue.specs.declared.Ring.{Ring}
 use Rattle.queue.specs.declared.Slot.{Slot}
-use Rattle.queue.specs.declared.Pushed.{Pushed}
-use Rattle.queue.specs.declared.Pushed.TheVariants.{Done, Full}
-use Rattle.queue.specs.declared.Front.{Front}
+use Rattle.std.specs.Prelude.{None, Some}
+use Rattle.queue.specs.Answered.{Front, Pushed}
 use Rattle.queue.specs.Ring.{Cells, record_of, waiting}
 use Rattle.queue.specs.Deeds.{Clears, Pushes, Scans, front_of, held}
 
 -- "it is queued (9 if Q live records are queued already)", as one equation on what waits
 pub push_held : (q : Ring) (c : Cells) (x : Slot) (p : Pushed) (c' : Cells) → Pushes q c x p c' →
     held p c' ≡ cond (leb q.room (length (waiting q c))) none (some (waiting q c ++ (record_of q.chrom x ∷ [])))
-push_held q c x (Done q') c' h =
+push_held q c x (Some q') c' h =
     let d = h.done q' refl in
     rw (lt-leb q.room (length (waiting q c)) d.fewer, d.more)
-push_held q c x Full c' h = rw (le-leb q.room (length (waiting q c)) (omega (arith, (h.full refl).full)))
+push_held q c x None c' h = rw (le-leb q.room (length (waiting q c)) (omega (arith, (h.full refl).full)))
 
 -- two rings over memory of their own, in which the same records wait
 module _ (q p : Ring) (c d : Cells) (same : waiting q c ≡ waiting p d) where

@@ -18,7 +18,7 @@ use Rattle.rules.specs.Rows.{Record}
 use Rattle.rules.specs.Overlap.{lasts, live, overlaps}
 use Rattle.queue.specs.declared.Ring.{Ring}
 use Rattle.queue.specs.declared.Slot.{Slot}
-use Rattle.queue.specs.declared.Pushed.{Pushed}
+use Rattle.queue.specs.Answered.{Pushed}
 use Rattle.queue.specs.Ring.{Cells, Fair, record_of, nth, waiting}
 use Rattle.queue.specs.Deeds.{Clears, Queues, Pushes, Scans, held}
 use Rattle.queue.proofs.Waiting.{length_waiting, nothing_waits}

@@ -15,9 +15,10 @@ use Rattle.rules.specs.declared.Base.{Base}
 use Rattle.rules.specs.declared.Chrom.{Chrom}
 use Rattle.rules.specs.Overlap.{lasts}
 use Rattle.queue.specs.declared.Ring.{Ring}
+use Rattle.queue.specs.declared.Slot.{Slot}
 use Rattle.queue.specs.Ring.{Cells, Sound, Fair, slot_at, place, nth, oldest, waiting}
 use Rattle.queue.specs.Deeds.{Clears, Skips, Leads, Packs, Packable, ends}
-use Rattle.queue.proofs.Places.{nth_put, nth_other, oldest_put, fair_put, place_zero}
+use Rattle.queue.proofs.Places.{nth_put, nth_other, oldest_put, fair_put}
 use Rattle.queue.proofs.Waiting.{moved, nothing_waits, waiting_cons, live_own, live_other}
 use Rattle.queue.proofs.Pushing.{oldest_more, fair_len}
 
@@ -43,11 +44,11 @@ module _ (q₀ q : Ring) (c : Cells) (from : ℕ) (v : Skipping q₀ q c from) w
   }
 
   -- the test at the head is one of the first that waits
-  module _ (m next : ℕ) (more : q.len ≡ suc m) (on : next ≡ place q.head q.room 1) where
-    first : ends from (nth q c 0) ≡ lasts from (slot_at c q.head).stop
-    first = rw (place_zero q.head q.room v.sound.inside)
+  module _ (m next : ℕ) (x : Slot) (more : q.len ≡ suc m) (on : next ≡ place q.head q.room 1) (here : x ≡ slot_at c (place q.head q.room 0)) where
+    first : ends from (nth q c 0) ≡ lasts from x.stop
+    first = rw here
 
-    pub skipping_stop : lasts from (slot_at c q.head).stop ≡ true → Skips q₀ c from q
+    pub skipping_stop : lasts from x.stop ≡ true → Skips q₀ c from q
     skipping_stop h = record {
       sound = v.sound;
       room = v.room;
@@ -55,7 +56,7 @@ module _ (q₀ q : Ring) (c : Cells) (from : ℕ) (v : Skipping q₀ q c from) w
       left = sym (sym v.same ∙ rw (waiting_cons q c m next v.sound more on, first, h));
     }
 
-    pub skipping_next : lasts from (slot_at c q.head).stop ≡ false → next < q.room → Skipping q₀ (moved q next m) c from
+    pub skipping_next : lasts from x.stop ≡ false → next < q.room → Skipping q₀ (moved q next m) c from
     skipping_next h l = record {
       sound = record { inside = l; fits = omega arith; small = v.sound.small };
       room = v.room;
@@ -66,33 +67,33 @@ module _ (q₀ q : Ring) (c : Cells) (from : ℕ) (v : Skipping q₀ q c from) w
 -- ---- how many stay where they are
 
 -- the first k are live, as their stops say
-pub record Leading (head len room : ℕ) (c : Cells) (from k : ℕ) : Type 0 where
-  pub within : k ≤ len
-  pub each : (j : ℕ) → j < k → lasts from (slot_at c (place head room j)).stop ≡ true
+pub record Leading (q : Ring) (c : Cells) (from k : ℕ) : Type 0 where
+  pub within : k ≤ q.len
+  pub each : (j : ℕ) → j < k → lasts from (slot_at c (place q.head q.room j)).stop ≡ true
 
-module _ (q : Ring) (c : Cells) (from k : ℕ) (v : Leading q.head q.len q.room c from k) where
+module _ (q : Ring) (c : Cells) (from k : ℕ) (v : Leading q c from k) where
   leads : All (λ r. ends from r ≡ true) (oldest k q c)
   leads = all_build (nth q c) k 0 (λ j i l. v.each j (omega arith))
 
-  pub leading_end : q.len ≤ k → Leads q c from k
+  pub leading_end : q.len ≤ k → Leads q c from q.len
   unfolding waiting
   leading_end h =
       let e : k ≡ q.len = omega (arith, v.within) in
-      record { few = v.within; ahead = sym (rw (← e) (front_whole leads)) }
+      record { few = omega arith; ahead = sym (front_whole (rw e at leads)) }
 
-  -- one slot more, which stands at `at`
-  module _ (at : ℕ) (more : k < q.len) (here : at ≡ place q.head q.room k) where
-    pub leading_next : lasts from (slot_at c at).stop ≡ true → Leading q.head q.len q.room c from (k + 1)
-    leading_next h = record { within = omega arith; each = below_more _ _ v.each (rw (← here) h) }
+  -- one slot more
+  module _ (x : Slot) (more : k < q.len) (here : x ≡ slot_at c (place q.head q.room k)) where
+    pub leading_next : lasts from x.stop ≡ true → Leading q c from (k + 1)
+    leading_next h = record { within = omega arith; each = below_more _ _ v.each (rw here at h) }
 
-    pub leading_stop : lasts from (slot_at c at).stop ≡ false → Leads q c from k
+    pub leading_stop : lasts from x.stop ≡ false → Leads q c from k
     unfolding waiting build
     leading_stop h =
         let m : ℕ = q.len - suc k in
         let n : q.len ≡ k + suc m = omega arith in
         record {
           few = v.within;
-          ahead = sym (rw (n, build_append (nth q c) k (suc m) 0, zero-add k) (front_stops (nth q c k) (build (nth q c) m (suc k)) leads (rw (← here) h)));
+          ahead = sym (rw (n, build_append (nth q c) k (suc m) 0, zero-add k) (front_stops (nth q c k) (build (nth q c) m (suc k)) leads (rw here at h)));
         }
 
 -- ---- the rest, moved up

@@ -13,10 +13,10 @@ use Rattle.basics.proofs.BoolLaws.{and_comm, and_left, and_also}
 use Rattle.basics.proofs.ListLaws.{filter_cong, all_map}
 use Rattle.basics.proofs.EdgeLaws.{filter_keeps, filter_drops}
 use Rattle.rules.specs.declared.Base.{Base}
-use Rattle.rules.specs.declared.Chrom.{Chrom}
 use Rattle.rules.specs.Rows.{Record}
 use Rattle.rules.specs.Overlap.{reaches, live, overlaps}
 use Rattle.queue.specs.declared.Ring.{Ring}
+use Rattle.queue.specs.declared.Slot.{Slot}
 use Rattle.queue.specs.Ring.{Cells, slot_at, place, nth, oldest, waiting}
 use Rattle.queue.specs.Deeds.{Scans, written, answer_row}
 use Rattle.queue.proofs.Pushing.{oldest_more}
@@ -39,53 +39,44 @@ written_more part d hits x old out n e h o =
     let m : length (hits ++ (x ∷ [])) ≡ suc n = length-append hits (x ∷ []) ∙ omega arith in
     rw (o, m, ← e, drop-cons old n d h, set_at (map part hits) (get_or old n d) (drop (suc n) old) (part x) n (length-map hits part ∙ sym e), map-append, append_assoc)
 
--- a ring by its numbers, on a chromosome
-abbrev ring_on : ℕ → ℕ → ℕ → Chrom → Ring
-ring_on head len room chrom = record { head = head; len = len; room = room; chrom = chrom }
-
--- the first k were gone through, and n of them were written, whatever the chromosome
-pub record Scanning (head len room : ℕ) (c : Cells) (until : ℕ) (l₀ l : List (List ℕ)) (n k : ℕ) : Type 0 where
-  pub within : k ≤ len
+-- the first k were gone through, and n of them were written
+pub record Scanning (q : Ring) (c : Cells) (until : ℕ) (l₀ l : List (List ℕ)) (n k : ℕ) : Type 0 where
+  pub within : k ≤ q.len
   pub few : n ≤ k
   pub answers : length l ≡ length l₀
-  pub scans : (chrom : Chrom) → Scans (filter (reached until) (oldest k (ring_on head len room chrom) c)) l₀ n l
+  pub scans : Scans (filter (reached until) (oldest k q c)) l₀ n l
 
-pub scanning_start : (head len room : ℕ) (c : Cells) (until : ℕ) (l : List (List ℕ)) → Scanning head len room c until l l 0 0
+pub scanning_start : (q : Ring) (c : Cells) (until : ℕ) (l : List (List ℕ)) → Scanning q c until l l 0 0
 unfolding build
-scanning_start head len room c until l = record { within = omega arith; few = omega arith; answers = refl; scans = λ chrom. record { count = refl; answers = refl } }
+scanning_start q c until l = record { within = omega arith; few = omega arith; answers = refl; scans = record { count = refl; answers = refl } }
 
--- one slot more, which stands at `at`
-module _ (head len room : ℕ) (c : Cells) (until : ℕ) (l₀ l : List (List ℕ)) (n k : ℕ) (v : Scanning head len room c until l₀ l n k) (more : k < len)
-    (at : ℕ) (here : at ≡ place head room k) where
-  pub scanning_pass : reaches until (slot_at c at).start ≡ false → Scanning head len room c until l₀ l n (k + 1)
+-- one slot more
+module _ (q : Ring) (c : Cells) (until : ℕ) (l₀ l : List (List ℕ)) (n k : ℕ) (v : Scanning q c until l₀ l n k) (more : k < q.len)
+    (x : Slot) (here : x ≡ slot_at c (place q.head q.room k)) where
+  pub scanning_pass : reaches until x.start ≡ false → Scanning q c until l₀ l n (k + 1)
   scanning_pass h = record {
     within = omega arith;
     few = omega arith;
     answers = v.answers;
-    scans = λ chrom.
-        let q = ring_on head len room chrom in
-        rw (oldest_more q c k, filter_drops (reached until) (oldest k q c) (nth q c k) (rw (← here) h)) (v.scans chrom);
+    scans = rw (oldest_more q c k, filter_drops (reached until) (oldest k q c) (nth q c k) (rw here at h)) v.scans;
   }
 
-  pub scanning_put : reaches until (slot_at c at).start ≡ true → n < length l₀ →
-      Scanning head len room c until l₀ (set l n ((slot_at c at).stream.0 ∷ (slot_at c at).row ∷ [])) (n + 1) (k + 1)
+  pub scanning_put : reaches until x.start ≡ true → n < length l₀ → Scanning q c until l₀ (set l n (x.stream.0 ∷ x.row ∷ [])) (n + 1) (k + 1)
   scanning_put h few = record {
     within = omega arith;
     few = omega arith;
     answers = simp length-set v.answers;
-    scans = λ chrom.
-        let q = ring_on head len room chrom in
+    scans =
         let hits = filter (reached until) (oldest k q c) in
-        let s = v.scans chrom in
-        rw (oldest_more q c k, filter_keeps (reached until) (oldest k q c) (nth q c k) (rw (← here) h), here) (record {
+        rw (oldest_more q c k, filter_keeps (reached until) (oldest k q c) (nth q c k) (rw here at h), here) (record {
           count = rw (length-append hits (nth q c k ∷ [])) (omega arith);
-          answers = written_more answer_row [] hits (nth q c k) l₀ l n s.count few s.answers;
+          answers = written_more answer_row [] hits (nth q c k) l₀ l n v.scans.count few v.scans.answers;
         });
   }
 
-pub scanning_end : (q : Ring) (c : Cells) (b : Base) (l₀ l : List (List ℕ)) (n k : ℕ) → Scanning q.head q.len q.room c b.stop l₀ l n k → q.len ≤ k →
+pub scanning_end : (q : Ring) (c : Cells) (b : Base) (l₀ l : List (List ℕ)) (n k : ℕ) → Scanning q c b.stop l₀ l n k → q.len ≤ k →
     All (λ r. live b r ≡ true) (waiting q c) → Scans (filter (overlaps b) (waiting q c)) l₀ n l
 unfolding waiting
 scanning_end q c b l₀ l n k v h all =
-    let e : q.len ≡ k = omega arith in
-    rw (filter_cong {p = overlaps b} {q = reached b.stop} (all_map (overlaps_live b) all), e) (v.scans q.chrom)
+    let e : q.len ≡ k = omega (arith, v.within) in
+    rw (filter_cong {p = overlaps b} {q = reached b.stop} (all_map (overlaps_live b) all), e) v.scans

@@ -14,10 +14,10 @@ use Rattle.rules.specs.declared.Base.{Base}
 use Rattle.rules.specs.Rows.{Record}
 use Rattle.rules.specs.Overlap.{live}
 use Rattle.queue.specs.declared.Ring.{Ring}
-use Rattle.queue.specs.declared.Front.TheVariants.{Nothing, At}
+use Rattle.std.specs.Prelude.{None, Some}
 use Rattle.queue.specs.Ring.{Cells, Sound, record_of, slot_at, place, nth, waiting}
 use Rattle.queue.specs.Deeds.{ends, Fronts}
-use Rattle.queue.proofs.Places.{place_zero, place_next}
+use Rattle.queue.proofs.Places.{place_next}
 
 pub length_waiting : (q : Ring) (c : Cells) → length (waiting q c) ≡ q.len
 unfolding waiting
@@ -51,10 +51,10 @@ module _ (q : Ring) (c : Cells) (b : Base) where
 
 -- where the first that waits starts
 module _ (q : Ring) (c : Cells) where
-  pub front_none : q.len ≡ 0 → Fronts q c Nothing
+  pub front_none : q.len ≡ 0 → Fronts q c None
   front_none h = record { first = rw (nothing_waits q c h) }
 
-  pub front_first : Sound q → (q.len ≡ 0 → ⊥) → Fronts q c (At (slot_at c q.head).start)
+  pub front_first : Sound q → (q.len ≡ 0 → ⊥) → Fronts q c (Some (slot_at c (place q.head q.room 0)).start)
   front_first s h =
       let more : q.len ≡ suc (q.len - 1) = omega arith in
-      record { first = rw (waiting_cons q c (q.len - 1) _ s more refl, place_zero q.head q.room s.inside) }
+      record { first = rw (waiting_cons q c (q.len - 1) _ s more refl) }

@@ -1,5 +1,6 @@
 -- What each operation says: equations on the list of the records that wait, and nothing of where these stand.
 use Rattle.std.specs.Prelude.{◌≡◌, Bool, true, not, List, [], ◌∷◌, ◌++◌, map, ℕ, ◌≤◌, ◌<◌, length, drop}
+use Rattle.std.specs.Prelude.{None, Some}
 use Rattle.std.proofs.Math.Option.{Option, none, some}
 use Rattle.basics.specs.Lists.{filter, front, back, first_one, All}
 use Rattle.rules.specs.declared.Base.{Base}
@@ -7,10 +8,7 @@ use Rattle.rules.specs.Rows.{Record}
 use Rattle.rules.specs.Overlap.{lasts, live}
 use Rattle.queue.specs.declared.Ring.{Ring}
 use Rattle.queue.specs.declared.Slot.{Slot}
-use Rattle.queue.specs.declared.Pushed.{Pushed}
-use Rattle.queue.specs.declared.Pushed.TheVariants.{Done, Full}
-use Rattle.queue.specs.declared.Front.{Front}
-use Rattle.queue.specs.declared.Front.TheVariants.{Nothing, At}
+use Rattle.queue.specs.Answered.{Front, Pushed}
 use Rattle.queue.specs.Ring.{Cells, Fair, Sound, record_of, oldest, waiting}
 
 -- ---- clearing
@@ -40,13 +38,13 @@ pub record Refuses (q : Ring) (c c' : Cells) : Type 0 where
 
 -- one of the two, by the answer
 pub record Pushes (q : Ring) (c : Cells) (x : Slot) (p : Pushed) (c' : Cells) : Type 0 where
-  pub done : (q' : Ring) → p ≡ Done q' → Queues q c x q' c'
-  pub full : p ≡ Full → Refuses q c c'
+  pub done : (q' : Ring) → p ≡ Some q' → Queues q c x q' c'
+  pub full : p ≡ None → Refuses q c c'
 
 -- what waits after a push; nothing is said of a ring that was full
 abbrev pub held : Pushed → Cells → Option (List Record)
-held (Done q) c = some (waiting q c)
-held Full c = none
+held (Some q) c = some (waiting q c)
+held None c = none
 
 -- ---- the records of a base
 
@@ -73,8 +71,8 @@ pub record Scans (hits : List Record) (l : List (List ℕ)) (n : ℕ) (l' : List
 
 -- where a record starts
 abbrev pub front_of : Option Record → Front
-front_of none = Nothing
-front_of (some r) = At r.it.start
+front_of none = None
+front_of (some r) = Some r.it.start
 
 -- of the first that waits
 pub record Fronts (q : Ring) (c : Cells) (r : Front) : Type 0 where

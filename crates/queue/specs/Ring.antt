@@ -1,5 +1,5 @@
 -- A ring of lent slots, and the list of the records that wait in it.
-use Rattle.std.specs.Prelude.{◌≡◌, cond, List, [], ℕ, ◌+◌, ◌-◌, ◌≤◌, ◌<◌, length, get_or, ltb}
+use Rattle.std.specs.Prelude.{◌≡◌, cond, List, [], ◌∷◌, ℕ, ◌+◌, ◌-◌, ◌≤◌, ◌<◌, length, get_or, ltb}
 use Rattle.basics.specs.Build.{build}
 use Rattle.rules.specs.declared.Chrom.{Chrom}
 use Rattle.rules.specs.Rows.{Record}
@@ -17,6 +17,10 @@ record_of chrom x = record { stream = x.stream; row = x.row; it = record { chrom
 -- the slot that four numbers are
 abbrev pub slot_in : List ℕ → Slot
 slot_in x = record { stream = record { 0 = get_or x 0 0 }; row = get_or x 1 0; start = get_or x 2 0; stop = get_or x 3 0 }
+
+-- and the four numbers of a slot
+abbrev pub numbers_of : Slot → List ℕ
+numbers_of x = x.stream.0 ∷ x.row ∷ x.start ∷ x.stop ∷ []
 
 -- the slot at place i
 abbrev pub slot_at : Cells → ℕ → Slot

@@ -4,7 +4,7 @@
 ghost use Rattle.std.specs.Prelude.{◌≡◌, ◌+◌, ◌≤◌, ◌<◌, length};
 ghost use Rattle.basics.specs.Lists.{filter};
 ghost use Rattle.rules.specs.Overlap.{overlaps};
-ghost use Rattle.queue.specs.Ring.{Fair, place, waiting};
+ghost use Rattle.queue.specs.Ring.{Fair, slot_in, slot_at, numbers_of, place, waiting};
 ghost use Rattle.queue.specs.Deeds.{Clears, Pushes, Scannable, Scans, Fronts, Skips, Leads, Packs, Packable};
 
 use rules::{Base, Chrom, Stream};
@@ -27,27 +27,25 @@ pub struct Slot {
     pub stop: u64,
 }
 
-// What pushing gives: the ring with one more, or no room.
-#[derive(Clone, Copy)]
-pub enum Pushed {
-    Done(Ring),
-    Full,
+impl From<[u64; 4]> for Slot {
+    ghost from_gives = { λ x y. y ≡ slot_in x };
+
+    fn from(x: [u64; 4]) -> Slot {
+        Slot {
+            stream: Stream(x[0]),
+            row: x[1],
+            start: x[2],
+            stop: x[3],
+        }
+    }
 }
 
-// Where the first that waits starts.
-#[derive(Clone, Copy)]
-pub enum Front {
-    Nothing,
-    At(u64),
-}
+impl From<Slot> for [u64; 4] {
+    ghost from_gives = { λ x y. y ≡ numbers_of x };
 
-// Where number k of a ring stands, counted from its head.
-pub fn place_of(head: usize, room: usize, k: usize) -> usize
-    requires { (head < room) × (k ≤ room) × (room ≤ 65536) }
-    ensures { (result ≡ place head room k) × (result < room) }
-{
-    let x = head + k;
-    if x < room { x } else { x - room }
+    fn from(x: Slot) -> [u64; 4] {
+        [x.stream.0, x.row, x.start, x.stop]
+    }
 }
 
 impl Ring {
@@ -58,46 +56,55 @@ impl Ring {
         Ring {
             head: 0,
             len: 0,
-            room: room,
-            chrom: chrom,
+            room,
+            chrom,
         }
     }
 
-    // Where the first that waits starts, or that nothing does.
-    pub fn front(self, queue: &[[u64; 4]]) -> Front
+    // Where number k stands, counted from the head.
+    #[tactic(auto, unfolding(crate::specs::Ring::place))]
+    pub fn place_of(self, k: usize) -> usize
+        requires { (self.head < self.room) × (k ≤ self.room) × (self.room ≤ 65536) }
+        ensures { (result ≡ place self.head self.room k) × (result < self.room) }
+    {
+        let at = self.head + k;
+        if at < self.room { at } else { at - self.room }
+    }
+
+    // Number k of those that wait.
+    pub fn slot(self, queue: &[[u64; 4]], k: usize) -> Slot
+        requires { Fair self queue.now × (k < self.len) }
+        ensures { result ≡ slot_at queue.now (place self.head self.room k) }
+    {
+        Slot::from(queue[self.place_of(k)])
+    }
+
+    // Where the first that waits starts, if any does.
+    pub fn front(self, queue: &[[u64; 4]]) -> Option<u64>
         requires { Fair self queue.now }
         ensures { Fronts self queue.now result }
     {
-        let head = self.head;
         if self.len == 0 {
-            return Front::Nothing;
+            return None;
         }
-        Front::At(queue[head][2])
+        Some(self.slot(queue, 0).start)
     }
 
-    // One more at the end, where there is room.
+    // The ring with one more at the end, where there is room.
     #[tactic(auto, using(crate::proofs::Pushing::push_full))]
-    pub fn push(self, queue: &mut [[u64; 4]], slot: Slot) -> Pushed
+    pub fn push(self, queue: &mut [[u64; 4]], slot: Slot) -> Option<Ring>
         requires { Fair self queue.old }
         ensures { Pushes self queue.old slot result
             queue.new }
     {
-        let head = self.head;
-        let len = self.len;
-        let room = self.room;
-        let chrom = self.chrom;
-        if len == room {
-            return Pushed::Full;
+        if self.len == self.room {
+            return None;
         }
-        let at = place_of(head, room, len);
-        let named = slot.stream;
-        let x = [named.0, slot.row, slot.start, slot.stop];
-        queue[at] = x;
-        Pushed::Done(Ring {
-            head: head,
-            len: len + 1,
-            room: room,
-            chrom: chrom,
+        let at = self.place_of(self.len);
+        queue[at] = slot.into();
+        Some(Ring {
+            len: self.len + 1,
+            ..self
         })
     }
 
@@ -106,28 +113,12 @@ impl Ring {
         requires { Fair self queue.now }
         ensures { Skips self queue.now from result }
     {
-        let room = self.room;
-        let chrom = self.chrom;
-        let mut head = self.head;
-        let mut len = self.len;
-        while 0 < len {
-            if measures::lasts(from, queue[head][3]) {
-                return Ring {
-                    head: head,
-                    len: len,
-                    room: room,
-                    chrom: chrom,
-                };
-            }
-            head = place_of(head, room, 1);
-            len -= 1;
+        let mut led = self;
+        while 0 < led.len && !measures::lasts(from, led.slot(queue, 0).stop) {
+            led.head = led.place_of(1);
+            led.len -= 1;
         }
-        Ring {
-            head: head,
-            len: len,
-            room: room,
-            chrom: chrom,
-        }
+        led
     }
 
     // How many records at the front end after from, up to the first that does not.
@@ -135,18 +126,12 @@ impl Ring {
         requires { Fair self queue.now }
         ensures { Leads self queue.now from result }
     {
-        let head = self.head;
-        let len = self.len;
-        let room = self.room;
-        let mut k: usize = 0;
-        while k < len {
-            let at = place_of(head, room, k);
-            if !measures::lasts(from, queue[at][3]) {
+        for k in 0..self.len {
+            if !measures::lasts(from, self.slot(queue, k).stop) {
                 return k;
             }
-            k += 1;
         }
-        k
+        self.len
     }
 
     // The records that end after from, moved up in their order; the first n are known to be among them and stay.
@@ -155,28 +140,16 @@ impl Ring {
         ensures { Packs self queue.old from result
             queue.new }
     {
-        let head = self.head;
-        let len = self.len;
-        let room = self.room;
-        let chrom = self.chrom;
         let mut kept = n;
-        let mut k = n;
-        while k < len {
-            let at = place_of(head, room, k);
-            k += 1;
-            if measures::lasts(from, queue[at][3]) {
-                let to = place_of(head, room, kept);
-                let x = queue[at];
-                queue[to] = x;
+        for k in n..self.len {
+            let at = self.place_of(k);
+            if measures::lasts(from, Slot::from(queue[at]).stop) {
+                let to = self.place_of(kept);
+                queue[to] = queue[at];
                 kept += 1;
             }
         }
-        Ring {
-            head: head,
-            len: kept,
-            room: room,
-            chrom: chrom,
-        }
+        Ring { len: kept, ..self }
     }
 
     // The records that are live for the base b, in their order. On another chromosome than the ring's there is none. Else the head
@@ -186,15 +159,12 @@ impl Ring {
         ensures { Clears self queue.old b result
             queue.new }
     {
-        let mine = self.chrom;
-        let its = b.chrom;
-        let from = b.start;
-        if mine.0 != its.0 {
-            return Ring::empty(self.room, its);
+        if self.chrom != b.chrom {
+            return Ring::empty(self.room, b.chrom);
         }
-        let led = self.skip(queue, from);
-        let n = led.live_ahead(queue, from);
-        led.pack(queue, from, n)
+        let led = self.skip(queue, b.start);
+        let n = led.live_ahead(queue, b.start);
+        led.pack(queue, b.start, n)
     }
 
     // The stream and the row of each record of the base b, in their order, to the answer rows: how many. All that wait are live
@@ -204,18 +174,11 @@ impl Ring {
         ensures { Scans (filter (overlaps b) (waiting self queue.now))
             answers.old result answers.new }
     {
-        let head = self.head;
-        let len = self.len;
-        let room = self.room;
-        let until = b.stop;
-        let mut n: usize = 0;
-        let mut k: usize = 0;
-        while k < len {
-            let at = place_of(head, room, k);
-            k += 1;
-            if measures::reaches(until, queue[at][2]) {
-                let x = [queue[at][0], queue[at][1]];
-                answers[n] = x;
+        let mut n = 0;
+        for k in 0..self.len {
+            let slot = self.slot(queue, k);
+            if measures::reaches(b.stop, slot.start) {
+                answers[n] = [slot.stream.0, slot.row];
                 n += 1;
             }
         }

@@ -1,5 +1,9 @@
-// The words of the scope document as types. There is no code here: what is right stands in specs/.
+// The words of the scope document as types. There is no code here but what a value of these types says of itself: what is right stands in specs/.
 #![tactic(auto)]
+
+ghost use Rattle.std.specs.Prelude.{◌≡◌};
+ghost use Rattle.rules.specs.Numbers.{refusal_number, end_number};
+ghost use Rattle.rules.specs.Start.{sized};
 
 // A stream's number, and a chromosome's number in list order: neither can stand where the other is due.
 #[derive(Clone, Copy, PartialEq, Eq)]
@@ -49,6 +53,16 @@ impl Settings {
 
     // "Queue room Q from 1 to 65,536."
     pub const ROOM: usize = 65536;
+
+    // Whether the numbers of streams and chromosomes and the room keep to these.
+    pub fn is_sized(self) -> bool
+        ensures { result ≡ sized self }
+    {
+        let few = (1..=Settings::STREAMS).contains(&self.streams);
+        let listed = (1..=Settings::CHROMS).contains(&self.chroms);
+        let roomy = (1..=Settings::ROOM).contains(&self.room);
+        few && listed && roomy
+    }
 }
 
 // What is offered after a base: a place up to which bases may be left out, or nothing.
@@ -78,6 +92,21 @@ pub enum Refusal {
     Reversed,
 }
 
+impl Refusal {
+    // Its number.
+    pub fn number(self) -> u64
+        ensures { result ≡ refusal_number self }
+    {
+        match self {
+            Refusal::Sizes => 1,
+            Refusal::Beyond => 3,
+            Refusal::Unlisted => 4,
+            Refusal::Unordered => 5,
+            Refusal::Reversed => 6,
+        }
+    }
+}
+
 // Why a run has ended.
 #[derive(Clone, Copy, PartialEq, Eq)]
 pub enum End {
@@ -89,6 +118,20 @@ pub enum End {
     NoRoom,
     // 10: more records than answer rows.
     NoRows,
+}
+
+impl End {
+    // The number of its refusal.
+    pub fn number(self) -> u64
+        ensures { result ≡ end_number self }
+    {
+        match self {
+            End::Faulty(_, _) => 7,
+            End::Unsorted(_, _) => 8,
+            End::NoRoom => 9,
+            End::NoRows => 10,
+        }
+    }
 }
 
 // How a run stands: no base accepted yet, the last accepted base, or its end.

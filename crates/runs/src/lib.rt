@@ -5,10 +5,11 @@ mod mark;
 mod start;
 
 ghost use Rattle.std.specs.Prelude.{◌≡◌, ◌<◌};
-ghost use Rattle.heads.specs.View.{four_at, fours_of, column_in, heads_by};
-ghost use Rattle.runs.specs.View.{ring_of, stage_of, run_in, over_of};
+ghost use Rattle.heads.specs.View.{four_at, column_in, heads_in};
+ghost use Rattle.runs.specs.View.{heads_of, ring_of, stage_of, run_in, over_of};
 
-pub use mark::{Mark, mark_of, stage_in};
+use heads::Heads;
+pub use mark::Mark;
 use queue::Ring;
 use rules::{Answer, Chrom, End, Settings, Stage};
 pub use start::{Begins, Started};
@@ -41,27 +42,20 @@ pub struct Given {
     pub answer: Answer,
 }
 
-// The head of stream k as four numbers.
-fn four_at<'a>(
-    chrom: &'a [u64; 8],
-    start: &'a [u64; 8],
-    stop: &'a [u64; 8],
-    row: &'a [u64; 8],
-    k: usize,
-) -> [u64; 4]
-    requires { k < 8 }
-    ensures { result ≡ four_at chrom.now start.now stop.now row.now k }
-{
-    [chrom[k], start[k], stop[k], row[k]]
-}
-
 // Number i of each four.
-fn column(q: [[u64; 4]; 8], i: usize) -> [u64; 8]
+fn column(fours: &[[u64; 4]; 8], i: usize) -> [u64; 8]
     requires { i < 4 }
-    ensures { result ≡ column_in i q }
+    ensures { result ≡ column_in i fours.now }
 {
     [
-        q[0][i], q[1][i], q[2][i], q[3][i], q[4][i], q[5][i], q[6][i], q[7][i],
+        fours[0][i],
+        fours[1][i],
+        fours[2][i],
+        fours[3][i],
+        fours[4][i],
+        fours[5][i],
+        fours[6][i],
+        fours[7][i],
     ]
 }
 
@@ -75,107 +69,99 @@ impl Run {
     // "Queue room Q from 1 to 65,536."
     pub const ROOM: usize = Settings::ROOM;
 
-    // The heads as an array of fours, built from the flat arrays.
-    pub fn fours(self) -> [[u64; 4]; 8]
-        ensures { result ≡ fours_of self.chrom self.start self.stop self.row }
+    // The head of stream k as four numbers.
+    fn four(&self, k: usize) -> [u64; 4]
+        requires { k < 8 }
+        ensures { result ≡ four_at self.now.chrom self.now.start self.now.stop self.now.row k }
     {
-        let x0 = four_at(&self.chrom, &self.start, &self.stop, &self.row, 0);
-        let x1 = four_at(&self.chrom, &self.start, &self.stop, &self.row, 1);
-        let x2 = four_at(&self.chrom, &self.start, &self.stop, &self.row, 2);
-        let x3 = four_at(&self.chrom, &self.start, &self.stop, &self.row, 3);
-        let x4 = four_at(&self.chrom, &self.start, &self.stop, &self.row, 4);
-        let x5 = four_at(&self.chrom, &self.start, &self.stop, &self.row, 5);
-        let x6 = four_at(&self.chrom, &self.start, &self.stop, &self.row, 6);
-        let x7 = four_at(&self.chrom, &self.start, &self.stop, &self.row, 7);
-        [x0, x1, x2, x3, x4, x5, x6, x7]
+        [self.chrom[k], self.start[k], self.stop[k], self.row[k]]
+    }
+
+    // The heads, as an array of fours that is built from the flat arrays.
+    pub fn heads(&self) -> Heads
+        ensures { heads_in result ≡ heads_of self.now }
+    {
+        Heads {
+            fours: [
+                self.four(0),
+                self.four(1),
+                self.four(2),
+                self.four(3),
+                self.four(4),
+                self.four(5),
+                self.four(6),
+                self.four(7),
+            ],
+            ended: self.ended,
+            next: self.next,
+            from: self.from,
+            to: self.to,
+            streams: self.settings.streams,
+        }
     }
 
     // What waits, as a ring.
-    pub fn ring(self) -> Ring
-        ensures { result ≡ ring_of self }
+    pub fn ring(&self) -> Ring
+        ensures { result ≡ ring_of self.now }
     {
-        let fixed = self.settings;
-        let chrom = Chrom(self.place);
         Ring {
             head: self.head,
             len: self.len,
-            room: fixed.room,
-            chrom: chrom,
+            room: self.settings.room,
+            chrom: Chrom(self.place),
         }
     }
 
     // How the run stands.
-    pub fn stage(self) -> Stage
-        ensures { result ≡ stage_of self }
+    pub fn stage(&self) -> Stage
+        ensures { result ≡ stage_of self.now }
     {
-        let mark = self.mark;
-        stage_in(mark)
+        Stage::from(self.mark)
     }
 
-    // The run with other heads, marks and next rows, another ring and its room, and another mark.
-    pub fn with(
-        self,
-        q: [[u64; 4]; 8],
-        ended: [u64; 8],
-        next: [usize; 8],
-        ring: Ring,
-        mark: Mark,
-    ) -> Run
-        ensures { result ≡ run_in (heads_by q ended next self.from self.to self.settings.streams) self.settings.chroms ring mark }
+    // The run of so many chromosomes with these heads, this ring and its room, and this mark.
+    pub fn of(heads: &Heads, chroms: usize, ring: Ring, mark: Mark) -> Run
+        ensures { result ≡ run_in (heads_in heads.now) chroms ring mark }
     {
-        let from = self.from;
-        let to = self.to;
-        let old = self.settings;
-        let fixed = Settings {
-            streams: old.streams,
-            chroms: old.chroms,
-            room: ring.room,
-        };
-        let place = ring.chrom;
-        let chrom = column(q, 0);
-        let start = column(q, 1);
-        let stop = column(q, 2);
-        let row = column(q, 3);
         Run {
-            chrom: chrom,
-            start: start,
-            stop: stop,
-            row: row,
-            ended: ended,
-            next: next,
-            from: from,
-            to: to,
-            settings: fixed,
+            chrom: column(&heads.fours, 0),
+            start: column(&heads.fours, 1),
+            stop: column(&heads.fours, 2),
+            row: column(&heads.fours, 3),
+            ended: heads.ended,
+            next: heads.next,
+            from: heads.from,
+            to: heads.to,
+            settings: Settings {
+                streams: heads.streams,
+                chroms,
+                room: ring.room,
+            },
             head: ring.head,
             len: ring.len,
-            place: place.0,
-            mark: mark,
+            place: ring.chrom.0,
+            mark,
         }
     }
 
     // The run ended: nothing is left of any stream and nothing waits.
-    pub fn over(self, e: End) -> Run
-        ensures { result ≡ over_of self e }
+    pub fn over(&self, e: End) -> Run
+        ensures { result ≡ over_of self.now e }
     {
-        let from = self.from;
-        let to = self.to;
-        let fixed = self.settings;
-        let none = [0; 8];
-        let mark = mark_of(Stage::Over(e));
         Run {
-            chrom: none,
-            start: none,
-            stop: none,
-            row: none,
+            chrom: [0; 8],
+            start: [0; 8],
+            stop: [0; 8],
+            row: [0; 8],
             ended: [1; 8],
-            next: from,
-            from: from,
-            to: to,
-            settings: fixed,
+            next: self.from,
+            from: self.from,
+            to: self.to,
+            settings: self.settings,
             head: 0,
             len: 0,
             place: 0,
-            mark: mark,
+            mark: Mark::from(Stage::Over(e)),
         }
     }
 }

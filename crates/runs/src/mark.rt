@@ -1,11 +1,12 @@
 // How a run stands, in numbers: every number has a meaning.
 ghost use Rattle.std.specs.Prelude.{◌≡◌};
-ghost use Rattle.runs.specs.Marks.{end_in, stage_in, mark_of_end, mark_of};
+ghost use Rattle.runs.specs.Marks.{end_in, stage_in, marked, mark_of};
 
 use rules::{Base, Chrom, End, Stage, Stream};
 
 // How a run stands, in numbers: 0, no base accepted yet; 1, and the last accepted base; 7 to 10, the refusal that ended it, and of 7 and
-// 8 stream and row; any other number is read as 10. What is not used is 0.
+// 8 stream and row; any other number is read as 10. What is not used is 0. The kinds are numbers, not an enum: a run lies in its host's
+// memory, and any content of it has a meaning.
 #[repr(C)]
 #[derive(Clone, Copy)]
 pub struct Mark {
@@ -15,94 +16,61 @@ pub struct Mark {
     pub third: u64,
 }
 
-// The end that a mark of 7 to 10 stands for.
-fn end_in(m: Mark) -> End
-    ensures { result ≡ end_in m }
-{
-    let first = m.first;
-    if m.kind == 7 {
-        return End::Faulty(Stream(first), m.second);
+impl Mark {
+    // The mark of these numbers.
+    fn new(kind: u64, first: u64, second: u64, third: u64) -> Mark
+        ensures { result ≡ marked kind first second third }
+    {
+        Mark {
+            kind,
+            first,
+            second,
+            third,
+        }
     }
-    if m.kind == 8 {
-        return End::Unsorted(Stream(first), m.second);
+
+    // The end that a mark of 7 to 10 stands for.
+    fn end(self) -> End
+        ensures { result ≡ end_in self }
+    {
+        match self.kind {
+            7 => End::Faulty(Stream(self.first), self.second),
+            8 => End::Unsorted(Stream(self.first), self.second),
+            9 => End::NoRoom,
+            _ => End::NoRows,
+        }
     }
-    if m.kind == 9 {
-        return End::NoRoom;
-    }
-    End::NoRows
 }
 
 // How the run stands that has this mark.
-pub fn stage_in(m: Mark) -> Stage
-    ensures { result ≡ stage_in m }
-{
-    if m.kind == 0 {
-        return Stage::Fresh;
-    }
-    if m.kind == 1 {
-        let chrom = Chrom(m.first);
-        let b = Base {
-            chrom: chrom,
-            start: m.second,
-            stop: m.third,
-        };
-        return Stage::After(b);
-    }
-    Stage::Over(end_in(m))
-}
+impl From<Mark> for Stage {
+    ghost from_gives = { λ m t. t ≡ stage_in m };
 
-// The mark of a run that has ended.
-fn mark_of_end(e: End) -> Mark
-    ensures { result ≡ mark_of_end e }
-{
-    match e {
-        End::Faulty(s, k) => Mark {
-            kind: 7,
-            first: s.0,
-            second: k,
-            third: 0,
-        },
-        End::Unsorted(s, k) => Mark {
-            kind: 8,
-            first: s.0,
-            second: k,
-            third: 0,
-        },
-        End::NoRoom => Mark {
-            kind: 9,
-            first: 0,
-            second: 0,
-            third: 0,
-        },
-        End::NoRows => Mark {
-            kind: 10,
-            first: 0,
-            second: 0,
-            third: 0,
-        },
+    fn from(m: Mark) -> Stage {
+        match m.kind {
+            0 => Stage::Fresh,
+            1 => Stage::After(Base {
+                chrom: Chrom(m.first),
+                start: m.second,
+                stop: m.third,
+            }),
+            _ => Stage::Over(m.end()),
+        }
     }
 }
 
 // The mark of a run that stands so.
-pub fn mark_of(t: Stage) -> Mark
-    ensures { result ≡ mark_of t }
-{
-    match t {
-        Stage::Fresh => Mark {
-            kind: 0,
-            first: 0,
-            second: 0,
-            third: 0,
-        },
-        Stage::After(b) => {
-            let c = b.chrom;
-            Mark {
-                kind: 1,
-                first: c.0,
-                second: b.start,
-                third: b.stop,
-            }
+impl From<Stage> for Mark {
+    ghost from_gives = { λ t m. m ≡ mark_of t };
+
+    fn from(t: Stage) -> Mark {
+        match t {
+            Stage::Fresh => Mark::new(0, 0, 0, 0),
+            Stage::After(b) => Mark::new(1, b.chrom.0, b.start, b.stop),
+            Stage::Over(End::Faulty(s, row)) => Mark::new(7, s.0, row, 0),
+            Stage::Over(End::Unsorted(s, row)) => Mark::new(8, s.0, row, 0),
+            Stage::Over(End::NoRoom) => Mark::new(9, 0, 0, 0),
+            Stage::Over(End::NoRows) => Mark::new(10, 0, 0, 0),
         }
-        Stage::Over(e) => mark_of_end(e),
     }
 }

@@ -4,8 +4,7 @@ ghost use Rattle.heads.specs.View.{cols};
 ghost use Rattle.runs.specs.Start.{plan, ranged, after_one, judged_by, fresh_run, start_of};
 ghost use Rattle.runs.specs.View.{eight};
 
-use crate::Run;
-use crate::mark::mark_of;
+use crate::{Mark, Run};
 use chroms::Check;
 use rules::{Settings, Stage, Unbegun};
 
@@ -50,7 +49,7 @@ impl Run {
         ensures { result ≡ fresh_run fixed from to }
     {
         let none = [0; 8];
-        let mark = mark_of(Stage::Fresh);
+        let mark = Mark::from(Stage::Fresh);
         Run {
             chrom: none,
             start: none,

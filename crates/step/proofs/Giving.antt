@@ -16,7 +16,7 @@ use Rattle.rules.specs.declared.Refusal.TheVariants.{Sizes}
 use Rattle.rules.specs.declared.Stage.{Stage}
 use Rattle.rules.specs.declared.Stage.TheVariants.{Fresh, After, Over}
 use Rattle.rules.specs.declared.Answer.TheVariants as answer
-use Rattle.rules.specs.declared.Offer.{Offer}
+use Rattle.rules.specs.Offered.{Offer}
 use Rattle.rules.specs.Rows.{Record}
 use Rattle.rules.specs.Streams.{ahead, next}
 use Rattle.rules.specs.Overlap.{taken, live, overlaps}
@@ -25,8 +25,7 @@ use Rattle.rules.specs.Pull.{Pull, paused, ends, pull}
 use Rattle.rules.specs.Bases.{judge}
 use Rattle.rules.specs.Call.{Reply, found, refused, ended, answer_of, refuse, over, end, loading, coming, after_pull, pulling, accept, judged, by_stage, give}
 use Rattle.rules.specs.Call as rules
-use Rattle.heads.specs.declared.Check.{Check}
-use Rattle.heads.specs.declared.Check.TheVariants as check
+use Rattle.std.specs.Prelude.{⊤, Result, Ok, Err}
 use Rattle.heads.specs.View.{Cols, Heads, rests_of, fresh_of}
 use Rattle.heads.specs.Move.{Placed, Shaped}
 use Rattle.heads.specs.Load.{load_to, LoadsAs}
@@ -34,9 +33,7 @@ use Rattle.heads.proofs.CheckLaws.{check_fine, check_wrong}
 use Rattle.heads.proofs.LoadLaws.{Upto, loaded_upto, load_rests}
 use Rattle.queue.specs.declared.Ring.{Ring}
 use Rattle.queue.specs.Ring.{Fair, waiting}
-use Rattle.admit.specs.declared.Gate.{Gate}
-use Rattle.admit.specs.declared.Gate.TheVariants.{Open, Shut}
-use Rattle.admit.specs.Gates.{known, lengths_of, last_of, gate_of}
+use Rattle.admit.specs.Gates.{Gate, known, lengths_of, last_of, gate_of}
 use Rattle.admit.specs.Fits.{Fits}
 use Rattle.admit.proofs.RightLaws.{right_fits}
 use Rattle.admit.proofs.GateLaws.{gate_open, gate_refuses}
@@ -210,9 +207,9 @@ module _ (s : Cols) (lengths : List ℕ) (r : Run) (b : Base) (l : Lent) where
   gate_at g t i e = e ∙ ap (λ (x : Stage). gate_of (right_of s lengths r l) (judge (lengths_of lengths) (last_of x) b)) i
 
   -- a base that is refused
-  shut_so : (t : Stage) → stage_of r ≡ t → Going t → (x : Refusal) → Gated s lengths r b l (Shut x) → given_of s lengths r b l ≡ refuse R x
-  shut_so Fresh i g x e = given_fresh i ∙ gate_refuses (right_of s lengths r l) (judge (lengths_of lengths) none b) N r.settings.room (length l.answers) R b (loading N R.left) x (sym (gate_at (Shut x) Fresh i e))
-  shut_so (After p) i g x e = given_after p i ∙ gate_refuses (right_of s lengths r l) (judge (lengths_of lengths) (some p) b) N r.settings.room (length l.answers) R b none x (sym (gate_at (Shut x) (After p) i e))
+  shut_so : (t : Stage) → stage_of r ≡ t → Going t → (x : Refusal) → Gated s lengths r b l (Err x) → given_of s lengths r b l ≡ refuse R x
+  shut_so Fresh i g x e = given_fresh i ∙ gate_refuses (right_of s lengths r l) (judge (lengths_of lengths) none b) N r.settings.room (length l.answers) R b (loading N R.left) x (sym (gate_at (Err x) Fresh i e))
+  shut_so (After p) i g x e = given_after p i ∙ gate_refuses (right_of s lengths r l) (judge (lengths_of lengths) (some p) b) N r.settings.room (length l.answers) R b none x (sym (gate_at (Err x) (After p) i e))
   shut_so (Over y) i g x e = absurd g
 
   -- 1
@@ -229,7 +226,7 @@ module _ (s : Cols) (lengths : List ℕ) (r : Run) (b : Base) (l : Lent) where
   }
 
   -- "run unchanged", and all that was lent
-  pub refused_so : Going (stage_of r) → (k : Gate) → Gated s lengths r b l k → (x : Refusal) → k ≡ Shut x → Gives s lengths r b l (record { run = r; answer = answer.Refused x }) l
+  pub refused_so : Going (stage_of r) → (k : Gate) → Gated s lengths r b l k → (x : Refusal) → k ≡ Err x → Gives s lengths r b l (record { run = r; answer = answer.Refused x }) l
   refused_so g k e x i = unchanged x (shut_so (stage_of r) refl g x (rw i at e))
 
   pub wrong_so : Going (stage_of r) → right_of s lengths r l ≡ false → Gives s lengths r b l (record { run = r; answer = answer.Refused Sizes }) l
@@ -245,7 +242,7 @@ module _ (s : Cols) (lengths : List ℕ) (r : Run) (b : Base) (l : Lent) where
 
   -- ---- an accepted base
 
-  module _ (k : Gate) (gated : Gated s lengths r b l k) (opened : k ≡ Open) where
+  module _ (k : Gate) (gated : Gated s lengths r b l k) (opened : k ≡ Ok tt) where
     opens_at : (t : Stage) → stage_of r ≡ t → (right_of s lengths r l ≡ true) × (judge (lengths_of lengths) (last_of t) b ≡ none)
     opens_at t i = gate_open (right_of s lengths r l) (judge (lengths_of lengths) (last_of t) b) (sym (gate_at k t i gated) ∙ opened)
 
@@ -285,7 +282,7 @@ module _ (s : Cols) (lengths : List ℕ) (r : Run) (b : Base) (l : Lent) where
     -- ---- the first base
 
     -- h: the heads after the loading, w: what was wrong
-    module _ (fresh : stage_of r ≡ Fresh) (shaped : Shaped (heads_of r)) (w : Check) (h : Heads) (loads : LoadsAs s r.settings.chroms (heads_of r) w h) where
+    module _ (fresh : stage_of r ≡ Fresh) (shaped : Shaped (heads_of r)) (w : Result ⊤ End) (h : Heads) (loads : LoadsAs s r.settings.chroms (heads_of r) w h) where
       goes : Going (stage_of r)
       goes = fresh_going r fresh
 
@@ -299,7 +296,7 @@ module _ (s : Cols) (lengths : List ℕ) (r : Run) (b : Base) (l : Lent) where
           given_fresh fresh ∙ rw (at.0, at.1, chroms_so, lefts)
 
       -- the first fault ends the run
-      pub first_wrong : (e : End) → w ≡ check.Wrong e → Gives s lengths r b l (record { run = over_of r e; answer = answer.Ended e }) l
+      pub first_wrong : (e : End) → w ≡ Err e → Gives s lengths r b l (record { run = over_of r e; answer = answer.Ended e }) l
       first_wrong e i =
           let is : given_of s lengths r b l ≡ end R e = first_given ∙ ap (accept r.settings.chroms r.settings.room (length l.answers) R b) (check_wrong (loading r.settings.chroms (fresh_of s (heads_of r))) e (sym loads.check ∙ i)) in
           settled (end R e) is tt goes (opened_by (stage_of r) s (heads_of r)) refl (record { run = over_of r e; answer = answer.Ended e }) l
@@ -314,7 +311,7 @@ module _ (s : Cols) (lengths : List ℕ) (r : Run) (b : Base) (l : Lent) where
           })
 
       -- the run u with its heads loaded goes on
-      module _ (fine : w ≡ check.Fine) where
+      module _ (fine : w ≡ Ok tt) where
         abbrev u : Run
         u = run_in h r.settings.chroms (ring_of r) r.mark
 

@@ -11,13 +11,10 @@ use Rattle.rules.specs.declared.Stage.{Stage}
 use Rattle.rules.specs.declared.Stage.TheVariants.{Fresh, After, Over}
 use Rattle.rules.specs.declared.Answer.TheVariants as answer
 use Rattle.rules.specs.Bases.{judge}
-use Rattle.heads.specs.declared.Check.{Check}
-use Rattle.heads.specs.declared.Check.TheVariants as check
+use Rattle.std.specs.Prelude.{⊤, Result, Ok, Err}
 use Rattle.heads.specs.View.{Cols, Heads}
 use Rattle.heads.specs.Load.{Loadable, LoadsAs}
-use Rattle.admit.specs.declared.Gate.{Gate}
-use Rattle.admit.specs.declared.Gate.TheVariants.{Open, Shut}
-use Rattle.admit.specs.Gates.{lengths_of, last_of, judged_of, gate_of}
+use Rattle.admit.specs.Gates.{Gate, lengths_of, last_of, judged_of, gate_of}
 use Rattle.pulls.specs.declared.Answered.{Answered}
 use Rattle.pulls.specs.Pulls.{Lent, Settleable, SettlesAs}
 use Rattle.runs.specs.declared.Run.{Run}
@@ -30,14 +27,14 @@ use Rattle.step.specs.Step.{Answerable, OpensAs, run_at, Ready, Steps}
 use Rattle.step.proofs.Giving.{Gated, refused_so, fits, answerable, settleable, ends_as, found_as, not_refused, further_so, first_wrong, first_shaped, first_answerable, over_same, first_so}
 
 -- how the run stands, by another name
-pub opens_by : {t u : Stage} {s : Cols} {n : ℕ} {h g : Heads} {w : Check} → OpensAs t s n h w g → t ≡ u → OpensAs u s n h w g
+pub opens_by : {t u : Stage} {s : Cols} {n : ℕ} {h g : Heads} {w : Result ⊤ End} → OpensAs t s n h w g → t ≡ u → OpensAs u s n h w g
 opens_by {s} {n} {h} {g} {w} x e = subst (λ (y : Stage). OpensAs y s n h w g) e x
 
 -- the heads that were loaded, or that were there
-pub opens_first : {t : Stage} {s : Cols} {n m : ℕ} {h g : Heads} {w : Check} → t ≡ Fresh → LoadsAs s n h w g → n ≡ m → OpensAs t s m h w g
+pub opens_first : {t : Stage} {s : Cols} {n m : ℕ} {h g : Heads} {w : Result ⊤ End} → t ≡ Fresh → LoadsAs s n h w g → n ≡ m → OpensAs t s m h w g
 opens_first {s} {m} {h} {g} {w} i x e = record { first = λ j. subst (λ (k : ℕ). LoadsAs s k h w g) e x; later = λ p j. let z : Fresh ≡ After p = sym i ∙ j in let y : ◌≡◌ {A = ℕ} 0 1 = cc in absurd (omega arith) }
 
-pub opens_later : {t : Stage} {s : Cols} {n : ℕ} {h : Heads} → (t ≡ Fresh → ⊥) → OpensAs t s n h check.Fine h
+pub opens_later : {t : Stage} {s : Cols} {n : ℕ} {h : Heads} → (t ≡ Fresh → ⊥) → OpensAs t s n h (Ok tt) h
 opens_later f = record { first = λ j. absurd (f j); later = λ p j. record { check = refl; heads = refl } }
 
 module _ (s : Cols) (lengths : List ℕ) (h : Heads) (x : State) (b : Base) (l : Lent) (z : Ready s lengths h x l) where
@@ -52,7 +49,7 @@ module _ (s : Cols) (lengths : List ℕ) (h : Heads) (x : State) (b : Base) (l :
   gated k e = e ∙ ap (λ (t : Bool). gate_of t (judge (lengths_of lengths) (last_of (stage_in x.mark)) b)) (sym z.right)
 
   -- 4, 6, 3 or 5
-  pub refuses : (k : Gate) → Judged k → (y : Refusal) → k ≡ Shut y → Steps s lengths h x b l (record { ring = x.ring; answer = answer.Refused y }) h l
+  pub refuses : (k : Gate) → Judged k → (y : Refusal) → k ≡ Err y → Steps s lengths h x b l (record { ring = x.ring; answer = answer.Refused y }) h l
   refuses k e y i = record {
     found = λ m o j. let v : ◌≡◌ {A = ℕ} 0 1 = cc in absurd (omega arith);
     refused = λ w j. let v : y ≡ w = cc in subst (λ (u : Refusal). Gives s lengths r b l (record { run = r; answer = answer.Refused u }) l) v (refused_so s lengths r b l z.going k (gated k e) y i);
@@ -60,12 +57,12 @@ module _ (s : Cols) (lengths : List ℕ) (h : Heads) (x : State) (b : Base) (l :
   }
 
   -- an accepted base
-  module _ (k : Gate) (e : Judged k) (opened : k ≡ Open) where
+  module _ (k : Gate) (e : Judged k) (opened : k ≡ Ok tt) where
     pub loadable : Loadable s h
     loadable = record { shaped = z.shaped; placed = (fits s lengths r b l k (gated k e) opened).placed }
 
     -- w is what was wrong with a first row, and g are the heads
-    module _ (w : Check) (g : Heads) (opens : OpensAs (stage_in x.mark) s x.fixed.chroms h w g) where
+    module _ (w : Result ⊤ End) (g : Heads) (opens : OpensAs (stage_in x.mark) s x.fixed.chroms h w g) where
       ends_only : (f : End) (q : Heads) → Gives s lengths r b l (record { run = over_of r f; answer = answer.Ended f }) l → Steps s lengths h x b l (record { ring = x.ring; answer = answer.Ended f }) q l
       ends_only f q y = record {
         found = λ m o j. let v : ◌≡◌ {A = ℕ} 0 1 = cc in absurd (omega arith);
@@ -73,15 +70,15 @@ module _ (s : Cols) (lengths : List ℕ) (h : Heads) (x : State) (b : Base) (l :
         ended = λ u j. let v : f ≡ u = cc in subst (λ (i : End). Gives s lengths r b l (record { run = over_of r i; answer = answer.Ended i }) l) v y;
       }
 
-      pub faults : (f : End) → w ≡ check.Wrong f → Steps s lengths h x b l (record { ring = x.ring; answer = answer.Ended f }) g l
+      pub faults : (f : End) → w ≡ Err f → Steps s lengths h x b l (record { ring = x.ring; answer = answer.Ended f }) g l
       faults f i = go (stage_in x.mark) refl
         where
           go : (t : Stage) → stage_in x.mark ≡ t → Steps s lengths h x b l (record { ring = x.ring; answer = answer.Ended f }) g l
           go Fresh j = ends_only f g (first_wrong s lengths r b l k (gated k e) opened j z.shaped w g (opens.first j) f i)
-          go (After p) j = let v : check.Wrong f ≡ check.Fine = sym i ∙ (opens.later p j).check in let y : ◌≡◌ {A = ℕ} 0 1 = cc in absurd (omega arith)
+          go (After p) j = let v : Err f ≡ Ok tt = sym i ∙ (opens.later p j).check in let y : ◌≡◌ {A = ℕ} 0 1 = cc in absurd (omega arith)
           go (Over y) j = absurd (subst Going j z.going)
 
-      module _ (fine : w ≡ check.Fine) where
+      module _ (fine : w ≡ Ok tt) where
         pub may_settle : Settleable s g x.ring l
         may_settle = go (stage_in x.mark) refl
           where

@@ -1,15 +1,13 @@
 -- What the parts of a call promise one another: a base of a run whose heads lie in arrays, at which 1 is not due.
-use Rattle.std.specs.Prelude.{◌≡◌, true, List, ℕ, ◌≤◌, length}
+use Rattle.std.specs.Prelude.{◌≡◌, ⊤, Result, Ok, true, List, ℕ, ◌≤◌, length}
 use Rattle.rules.specs.declared.Base.{Base}
 use Rattle.rules.specs.declared.End.{End}
 use Rattle.rules.specs.declared.Refusal.{Refusal}
-use Rattle.rules.specs.declared.Offer.{Offer}
+use Rattle.rules.specs.Offered.{Offer}
 use Rattle.rules.specs.declared.Answer.TheVariants as answer
 use Rattle.rules.specs.declared.Stage.{Stage}
 use Rattle.rules.specs.declared.Stage.TheVariants.{Fresh, After}
 use Rattle.rules.specs.Call.{pulling}
-use Rattle.heads.specs.declared.Check.{Check}
-use Rattle.heads.specs.declared.Check.TheVariants as check
 use Rattle.heads.specs.View.{Cols, Heads}
 use Rattle.heads.specs.Move.{Placed, Shaped}
 use Rattle.heads.specs.Load.{LoadsAs}
@@ -40,12 +38,12 @@ AnswersAs s r b l g l' =
 -- ---- the heads are loaded where that is due
 
 -- a run that has its heads keeps them
-pub record KeepsHeads (h : Heads) (w : Check) (h' : Heads) : Type 0 where
-  pub check : w ≡ check.Fine
+pub record KeepsHeads (h : Heads) (w : Result ⊤ End) (h' : Heads) : Type 0 where
+  pub check : w ≡ Ok tt
   pub heads : h' ≡ h
 
 -- by how the run stands: of one that has ended nothing is said
-pub record OpensAs (t : Stage) (s : Cols) (n : ℕ) (h : Heads) (w : Check) (h' : Heads) : Type 0 where
+pub record OpensAs (t : Stage) (s : Cols) (n : ℕ) (h : Heads) (w : Result ⊤ End) (h' : Heads) : Type 0 where
   pub first : t ≡ Fresh → LoadsAs s n h w h'
   pub later : (p : Base) → t ≡ After p → KeepsHeads h w h'
 

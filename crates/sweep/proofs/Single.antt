@@ -4,8 +4,8 @@ use mathlib.Core.List.{List}
 use Prim.Native.Nat.{ℕ, ◌+◌}
 use native.Mathlib.Omega.{arith}
 use lib.ListN.{length}
-use Rattle.rules.specs.declared.Offer.{Offer}
-use Rattle.rules.specs.declared.Offer.TheVariants.{Nothing}
+use Rattle.rules.specs.Offered.{Offer}
+use Rattle.std.specs.Prelude.{Option, Some, None}
 use Rattle.rules.specs.declared.Answer.{Answer}
 use Rattle.rules.specs.declared.Answer.TheVariants as answer
 use Rattle.heads.specs.View.{Cols}
@@ -18,7 +18,7 @@ use Rattle.many.specs.Many.{base_at, behind, Passes, none, one, Unfound, Ends, a
 -- of no base answered: where it began
 record Begin (r : Run) (l : Lent) (u : ℕ) (p : Offer) (v : Run) (m : Lent) : Type 0 where
   free : u ≡ 0
-  offer : p ≡ Nothing
+  offer : p ≡ None
   run : v ≡ r
   lent : m ≡ l
 
@@ -44,16 +44,16 @@ module _ {s : Cols} {lengths : List ℕ} {t : Cols} {r : Run} {l : Lent} {ns : L
           (subst (λ (y : ℕ). Gives s lengths r' (base_at t 0) (behind y l') (record { run = r₂; answer = answer.Found i o }) (behind y l₂)) b
           (subst (λ (y : ℕ). Gives s lengths r' (base_at t y) (behind u' l') (record { run = r₂; answer = answer.Found i o }) (behind u' l₂)) a x)))
 
--- how a call for one base ended: it was answered
-record One (v : Run) (m : Lent) (a : Answer) (w : Run) (l' : Lent) : Type 0 where
+-- how a call for one base ended: nothing stopped it, and it was answered
+record One (k : ℕ) (v : Run) (m : Lent) (w : Run) (l' : Lent) : Type 0 where
+  bases : k ≡ 1
   run : w ≡ v
   lent : l' ≡ m
-  last : a ≡ answer.Found 0 Nothing
 
-ends_one : {s : Cols} {lengths : List ℕ} {t : Cols} {k u : ℕ} {v : Run} {m : Lent} {a : Answer} {w : Run} {l' : Lent} → Ends s lengths t k u v m a w l' → length t.chrom ≡ 1 → k ≡ 1 → One v m a w l'
-ends_one (all e) n i = record { run = refl; lent = refl; last = refl }
-ends_one (short b z f) n i = record { run = refl; lent = refl; last = refl }
-ends_one (other a w l' b z x g y) n i = absurd (omega (arith, b, n, i))
+ends_one : {s : Cols} {lengths : List ℕ} {t : Cols} {k u : ℕ} {v : Run} {m : Lent} {o : Option Answer} {w : Run} {l' : Lent} → Ends s lengths t k u v m o w l' → length t.chrom ≡ 1 → o ≡ None → One k v m w l'
+ends_one (all e) n i = record { bases = e ∙ n; run = refl; lent = refl }
+ends_one (short b z f) n i = absurd (omega (arith, b, z, n))
+ends_one (other a w l' b z x g y) n i = let c : ◌≡◌ {A = ℕ} 0 1 = cc in absurd (omega arith)
 
 -- it was not
 record Other (s : Cols) (lengths : List ℕ) (t : Cols) (r : Run) (l : Lent) (k : ℕ) (a : Answer) (w : Run) (l' : Lent) : Type 0 where
@@ -61,14 +61,15 @@ record Other (s : Cols) (lengths : List ℕ) (t : Cols) (r : Run) (l : Lent) (k 
   unfound : Unfound a
   gives : Gives s lengths r (base_at t 0) l (record { run = w; answer = a }) l'
 
-ends_none : {s : Cols} {lengths : List ℕ} {t : Cols} {r : Run} {l : Lent} {ns : List ℕ} {k u : ℕ} {p : Offer} {v : Run} {m : Lent} {ms : List ℕ} {a : Answer} {w : Run} {l' : Lent} → Passes s lengths t r l ns k u p v m ms → Ends s lengths t k u v m a w l'
-    → length t.chrom ≡ 1 → (k ≡ 1 → ⊥) → Other s lengths t r l k a w l'
-ends_none q (all e) n i = absurd (i (e ∙ n))
-ends_none q (short b z f) n i = absurd (omega (arith, b, z, n))
-ends_none {s} {lengths} {t} {r} {l} {k = k} {u = u} {v = v} {m = m} q (other a w l' b z x g y) n i =
+ends_none : {s : Cols} {lengths : List ℕ} {t : Cols} {r : Run} {l : Lent} {ns : List ℕ} {k u : ℕ} {p : Offer} {v : Run} {m : Lent} {ms : List ℕ} {o : Option Answer} {w : Run} {l' : Lent} → Passes s lengths t r l ns k u p v m ms → Ends s lengths t k u v m o w l'
+    → length t.chrom ≡ 1 → (a : Answer) → o ≡ Some a → Other s lengths t r l k a w l'
+ends_none q (all e) n d i = let c : ◌≡◌ {A = ℕ} 0 1 = cc in absurd (omega arith)
+ends_none q (short b z f) n d i = absurd (omega (arith, b, z, n))
+ends_none {s} {lengths} {t} {r} {l} {k = k} {u = u} {v = v} {m = m} q (other a w l' b z x g y) n d i =
     let j : k ≡ 0 = omega (arith, b, n) in
     let f = passes_none q j in
-    record { none = j; unfound = x; gives = go k j u f.free v f.run m f.lent g }
+    let same : a ≡ d = cc in
+    subst (λ (h : Answer). Other s lengths t r l k h w l') same (record { none = j; unfound = x; gives = go k j u f.free v f.run m f.lent g })
   where
     go : (k' : ℕ) → k' ≡ 0 → (u' : ℕ) → u' ≡ 0 → (r' : Run) → r' ≡ r → (m' : Lent) → m' ≡ l → Gives s lengths r' (base_at t k') (behind u' m') (record { run = w; answer = a }) (behind u' l')
         → Gives s lengths r (base_at t 0) l (record { run = w; answer = a }) l'
@@ -83,22 +84,22 @@ module _ {s : Cols} {lengths : List ℕ} {t : Cols} {r : Run} {l : Lent} {p : Pa
   answers : Answers s lengths t r l ns p l' ns'
   answers = x.even even
 
-  pub single_found : p.bases ≡ 1 → Gives s lengths r (base_at t 0) l (record { run = p.run; answer = answer.Found p.records p.offer }) l'
+  -- nothing stopped it: the base was answered
+  pub single_found : p.last ≡ None → Gives s lengths r (base_at t 0) l (record { run = p.run; answer = answer.Found p.records p.offer }) l'
   single_found i =
       let e = ends_one answers.ends n i in
       subst (λ (w : Run). Gives s lengths r (base_at t 0) l (record { run = w; answer = answer.Found p.records p.offer }) l') (sym e.run)
-      (subst (λ (m : Lent). Gives s lengths r (base_at t 0) l (record { run = answers.run; answer = answer.Found p.records p.offer }) m) (sym e.lent) (passes_one answers.passes i))
+      (subst (λ (m : Lent). Gives s lengths r (base_at t 0) l (record { run = answers.run; answer = answer.Found p.records p.offer }) m) (sym e.lent) (passes_one answers.passes e.bases))
 
-  -- and nothing stopped it
-  pub single_last : p.bases ≡ 1 → p.last ≡ answer.Found 0 Nothing
-  single_last i = (ends_one answers.ends n i).last
+  pub single_one : p.last ≡ None → p.bases ≡ 1
+  single_one i = (ends_one answers.ends n i).bases
 
-  pub single_other : (p.bases ≡ 1 → ⊥) → Gives s lengths r (base_at t 0) l (record { run = p.run; answer = p.last }) l'
-  single_other i = (ends_none answers.passes answers.ends n i).gives
+  pub single_other : (a : Answer) → p.last ≡ Some a → Gives s lengths r (base_at t 0) l (record { run = p.run; answer = a }) l'
+  single_other a i = (ends_none answers.passes answers.ends n a i).gives
 
   -- and no base was answered, so there are no records and nothing was offered
-  pub single_none : (p.bases ≡ 1 → ⊥) → (p.bases ≡ 0) × ((p.records ≡ 0) × ((p.offer ≡ Nothing) × Unfound p.last))
-  single_none i =
-      let e = ends_none answers.passes answers.ends n i in
+  pub single_none : (a : Answer) → p.last ≡ Some a → (p.bases ≡ 0) × ((p.records ≡ 0) × ((p.offer ≡ None) × Unfound a))
+  single_none a i =
+      let e = ends_none answers.passes answers.ends n a i in
       let b = passes_none answers.passes e.none in
       (e.none, (b.free, (b.offer, e.unfound)))

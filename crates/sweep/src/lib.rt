@@ -1,10 +1,11 @@
 // The sweep: one base in, its records and an offer out.
 #![tactic(auto)]
 
-ghost use Rattle.heads.specs.View.{cols};
+ghost use Rattle.heads.specs.View.{cols_of};
 ghost use Rattle.pulls.specs.Pulls.{lent};
 ghost use Rattle.step.specs.Give.{Gives};
 
+use heads::Columns;
 use rules::{Answer, Base};
 use runs::{Given, Run};
 
@@ -13,35 +14,28 @@ use runs::{Given, Run};
 pub fn give(
     run: Run,
     b: Base,
-    chrom: &[u64],
-    start: &[u64],
-    stop: &[u64],
+    s: Columns,
     lengths: &[u64],
     queue: &mut [[u64; 4]],
     answers: &mut [[u64; 2]],
 ) -> Given
-    ensures { Gives (cols chrom.now start.now stop.now) lengths.now run b
-        (lent queue.old answers.old) result (lent queue.new answers.new) }
+    ensures { Gives (cols_of s.entry) lengths.now run b (lent queue.old answers.old) result (lent queue.new answers.new) }
 {
-    let c = b.chrom;
-    let bchrom = [c.0];
-    let bstart = [b.start];
-    let bstop = [b.stop];
-    let mut count = [0usize; 1];
-    let p = many::give_all(
-        run, &bchrom, &bstart, &bstop, chrom, start, stop, lengths, queue, answers, &mut count,
-    );
-    let after = p.run;
-    let offer = p.offer;
-    let last = p.last;
-    if p.bases == 1 {
-        return Given {
-            run: after,
-            answer: Answer::Found(p.records, offer),
-        };
-    }
-    Given {
-        run: after,
-        answer: last,
+    let chrom = [b.chrom.0];
+    let start = [b.start];
+    let stop = [b.stop];
+    let bases = Columns {
+        chrom: &chrom,
+        start: &start,
+        stop: &stop,
+    };
+    let mut count = [0; 1];
+    let p = many::give_all(run, bases, s, lengths, queue, answers, &mut count);
+    match p.last {
+        None => Given {
+            run: p.run,
+            answer: Answer::Found(p.records, p.offer),
+        },
+        Some(answer) => Given { run: p.run, answer },
     }
 }

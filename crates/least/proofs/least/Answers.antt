@@ -1,18 +1,23 @@
 -- `least` meets its contract: the head of the stream that was chosen.
-use mathlib.Core.Path.{◌∙◌}
-use native.Mathlib.Omega.{arith}
-use Rattle.least.proofs.LeastLaws.{least_none, least_at}
+use Rattle.std.proofs.Common.{sym, ◌∙◌, ap, arith}
+use Rattle.std.specs.Prelude.{Some}
+use Rattle.least.proofs.LeastLaws.{LeastAt, least_at, least_none}
 use Rattle.least.proofs.least.Goals as goal
 
-pub returns-then-k-ge8 : goal.returns-then-k-ge8
-returns-then-k-ge8 c = least_none c.args.fours.now c.args.ended.now c.args.n (rw c.choose-k.ensures at c.if-k-ge8.true)
+pub returns-in_err-k : goal.returns-in_err-k
+returns-in_err-k c = c.from_residual.ensures ∙ least_none c.args.fours.now c.args.ended.now c.args.n (sym c.in_err-k.was ∙ c.choose.ensures)
 
 pub offset_bounds-fours-at : goal.offset_bounds-fours-at
-offset_bounds-fours-at c = omega (arith, c.place_in-at.ensures, c.if-k-ge8.false)
+offset_bounds-fours-at c =
+    let w : LeastAt c.args.fours.now c.args.ended.now c.args.n c.in_ok-k.k = least_at c.args.fours.now c.args.ended.now c.args.n c.in_ok-k.k c.in_ok-k.ensures in
+    omega (arith, w.inside)
 
 pub bounds-fours-at : goal.bounds-fours-at
-bounds-fours-at c = omega (arith, c.place_in-at.ensures, c.if-k-ge8.false)
+bounds-fours-at c =
+    let w : LeastAt c.args.fours.now c.args.ended.now c.args.n c.in_ok-k.k = least_at c.args.fours.now c.args.ended.now c.args.n c.in_ok-k.k c.in_ok-k.ensures in
+    w.inside
 
 pub returns : goal.returns
 returns c =
-    c.best_at.ensures ∙ rw c.place_in-at.ensures (least_at c.args.fours.now c.args.ended.now c.args.n c.choose-k.result c.choose-k.ensures c.if-k-ge8.false)
+    let w : LeastAt c.args.fours.now c.args.ended.now c.args.n c.in_ok-k.k = least_at c.args.fours.now c.args.ended.now c.args.n c.in_ok-k.k c.in_ok-k.ensures in
+    ap Some c.best_at.ensures ∙ w.is

@@ -1,40 +1,19 @@
 -- `least_of_two` meets its contract: of one stream its mark decides, of two their marks and their heads.
-use mathlib.Core.Path.{◌≡◌, refl, ◌∙◌}
-use native.Mathlib.Omega.{arith}
-use Rattle.least.proofs.LeastLaws.{of_one, of_both}
+use Rattle.std.proofs.Common.{◌≡◌, refl, sym, ap, ◌∙◌, Bool, leb, ◌||◌}
+use Rattle.least.proofs.LeastLaws.{of_few}
 use Rattle.least.proofs.least_of_two.Goals as goal
 
-pub returns-then-has_ended : goal.returns-then-has_ended
-returns-then-has_ended c =
-    let one : c.args.n ≡ 1 = omega (arith, c.if-n-lt2.true, c.requires.0) in
-    rw one (rw c.if-has_ended.true at (of_one c.args.q c.args.ended _ c.has_ended.ensures))
+pub returns-in-true-true : goal.returns-in-true-true
+returns-in-true-true c = of_few c.args.q c.args.ended c.args.n c.requires.0 c.requires.1 _ _ _ c.in-true-true.ensures (sym c.in-true-true.is-1 ∙ ap (λ (x : Bool). leb c.args.n 1 || x) c.has_ended.ensures) refl
 
-pub returns-then-n-lt2 : goal.returns-then-n-lt2
-returns-then-n-lt2 c =
-    let one : c.args.n ≡ 1 = omega (arith, c.if-n-lt2.true, c.requires.0) in
-    rw one (rw c.if-has_ended.false at (of_one c.args.q c.args.ended _ c.has_ended.ensures))
+pub returns-in-true-false : goal.returns-in-true-false
+returns-in-true-false c = of_few c.args.q c.args.ended c.args.n c.requires.0 c.requires.1 _ _ _ c.in-true-false.ensures (sym c.in-true-false.is-1 ∙ ap (λ (x : Bool). leb c.args.n 1 || x) c.has_ended.ensures) refl
 
-pub returns-then-has_ended-3 : goal.returns-then-has_ended-3
-returns-then-has_ended-3 c =
-    let two : c.args.n ≡ 2 = omega (arith, c.if-n-lt2.false, c.requires.1) in
-    rw two (rw (c.if-has_ended-2.true, c.if-has_ended-3.true) at (of_both c.args.q c.args.ended _ _ _ c.has_ended-then-has_ended-2.ensures c.has_ended-2.ensures refl))
-
-pub returns-then-has_ended-2 : goal.returns-then-has_ended-2
-returns-then-has_ended-2 c =
-    let two : c.args.n ≡ 2 = omega (arith, c.if-n-lt2.false, c.requires.1) in
-    rw two (rw (c.if-has_ended-2.true, c.if-has_ended-3.false) at (of_both c.args.q c.args.ended _ _ _ c.has_ended-then-has_ended-2.ensures c.has_ended-2.ensures refl))
-
-pub returns-then-has_ended-4 : goal.returns-then-has_ended-4
-returns-then-has_ended-4 c =
-    let two : c.args.n ≡ 2 = omega (arith, c.if-n-lt2.false, c.requires.1) in
-    rw two (rw (c.if-has_ended-2.false, c.if-has_ended-4.true) at (of_both c.args.q c.args.ended _ _ _ c.has_ended-3.ensures c.has_ended-2.ensures refl))
+pub returns-in-false-true : goal.returns-in-false-true
+returns-in-false-true c = of_few c.args.q c.args.ended c.args.n c.requires.0 c.requires.1 _ _ _ c.in-false-true.ensures (sym c.in-false-true.is-1 ∙ ap (λ (x : Bool). leb c.args.n 1 || x) c.has_ended.ensures) refl
 
 pub returns-then-is_sooner : goal.returns-then-is_sooner
-returns-then-is_sooner c =
-    let two : c.args.n ≡ 2 = omega (arith, c.if-n-lt2.false, c.requires.1) in
-    rw two (rw (c.if-has_ended-2.false, c.if-has_ended-4.false, c.if-is_sooner.true) at (of_both c.args.q c.args.ended _ _ _ c.has_ended-3.ensures c.has_ended-2.ensures (c.is_sooner.ensures ∙ rw c.best_at-b.ensures)))
+returns-then-is_sooner c = of_few c.args.q c.args.ended c.args.n c.requires.0 c.requires.1 _ _ _ c.in-false-false.ensures (sym c.in-false-false.is-1 ∙ ap (λ (x : Bool). leb c.args.n 1 || x) c.has_ended.ensures) (sym c.if-is_sooner.true ∙ c.is_sooner.ensures ∙ rw c.best_at.ensures)
 
-pub returns : goal.returns
-returns c =
-    let two : c.args.n ≡ 2 = omega (arith, c.if-n-lt2.false, c.requires.1) in
-    rw two (rw (c.if-has_ended-2.false, c.if-has_ended-4.false, c.if-is_sooner.false) at (of_both c.args.q c.args.ended _ _ _ c.has_ended-3.ensures c.has_ended-2.ensures (c.is_sooner.ensures ∙ rw c.best_at-b.ensures)))
+pub returns-else-is_sooner : goal.returns-else-is_sooner
+returns-else-is_sooner c = of_few c.args.q c.args.ended c.args.n c.requires.0 c.requires.1 _ _ _ c.in-false-false.ensures (sym c.in-false-false.is-1 ∙ ap (λ (x : Bool). leb c.args.n 1 || x) c.has_ended.ensures) (sym c.if-is_sooner.false ∙ c.is_sooner.ensures ∙ rw c.best_at.ensures)

@@ -1,9 +1,8 @@
 -- `push_step`: by the two answers of a push.
 use Rattle.tests_queue.proofs.push_step.Goals as goal
 
-pub show-requires : goal.show-requires
-show-requires g c = (c.push-pushed.ensures.done _ c.in-Done.is).fair
+pub show_waiting-requires-2 : goal.show_waiting-requires-2
+show_waiting-requires-2 g c = (c.push.ensures.done _ c.in-Some.is).fair
 
-pub returns-in_ok-show-in-Done-clause-ok : goal.returns-in_ok-show-in-Done-clause-ok
-returns-in_ok-show-in-Done-clause-ok g c =
-    ((c.push-pushed.ensures.done _ c.in-Done.is).fair, (c.push-pushed.ensures.done _ c.in-Done.is).room)
+pub returns-clause-ok : goal.returns-clause-ok
+returns-clause-ok g c = ((c.push.ensures.done _ c.in-Some.is).fair, (c.push.ensures.done _ c.in-Some.is).room)

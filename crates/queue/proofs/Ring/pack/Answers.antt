@@ -2,17 +2,16 @@
 use mathlib.Core.Path.{sym, ◌∙◌}
 use Rattle.queue.proofs.Clearing.{packing_start, packing_drop, packing_keep, packing_end}
 use Rattle.queue.proofs.Ring.pack.Goals as goal
+use Rattle.queue.proofs.Ring.pack.Goals.{then-lasts, else-lasts}
 
 pub loop-k-init : goal.loop-k-init
 loop-k-init c = packing_start c.args.self _ _ _ c.requires
 
-pub loop-k-preserved-then-lasts : goal.loop-k-preserved-then-lasts
-loop-k-preserved-then-lasts c =
-    packing_keep c.args.self _ _ _ _ _ c.loop-k.invariant _ c.loop-k-test.true c.place_of-at.ensures.0 _ c.place_of-to.ensures.0 (sym c.lasts.ensures ∙ c.if-lasts.true)
-
 pub loop-k-preserved : goal.loop-k-preserved
-loop-k-preserved c =
-    packing_drop c.args.self _ _ _ _ _ c.loop-k.invariant _ c.loop-k-test.true c.place_of-at.ensures.0 (sym c.lasts.ensures ∙ c.if-lasts.false)
+loop-k-preserved c = elim c.if-lasts.branch [
+  | then-lasts w ↦ rw (w.queue-is, w.kept-is) (packing_keep c.args.self _ _ _ _ _ c.loop-k.invariant _ c.loop-k-test.true c.place_of-at.ensures.0 _ w.place_of-to.ensures.0 (sym (rw c.from.ensures at c.lasts.ensures) ∙ w.if-lasts.true))
+  | else-lasts w ↦ rw (w.queue-is, w.kept-is) (packing_drop c.args.self _ _ _ _ _ c.loop-k.invariant _ c.loop-k-test.true c.place_of-at.ensures.0 (sym (rw c.from.ensures at c.lasts.ensures) ∙ w.if-lasts.false))
+]
 
 pub returns : goal.returns
 returns c = packing_end c.args.self _ _ _ _ _ c.loop-k.invariant c.loop-k-test.false

@@ -2,18 +2,16 @@
 use mathlib.Core.Path.{refl, sym, ◌∙◌}
 use Prim.Native.Nat.{◌-◌}
 use native.Mathlib.Omega.{arith}
-use Rattle.queue.proofs.Clearing.{skipping_start, skipping_stop, skipping_next, skipping_end}
+use Rattle.queue.proofs.Clearing.{skipping_stop, skipping_next, skipping_end}
 use Rattle.queue.proofs.Ring.skip.Goals as goal
 
-pub loop-len-init : goal.loop-len-init
-loop-len-init c = skipping_start _ _ _ c.requires.sound
+pub loop-led-preserved : goal.loop-led-preserved
+loop-led-preserved c =
+    skipping_next _ _ _ _ c.loop-led.invariant (c.loop-led.led.len - 1) _ _ (omega arith) c.place_of.ensures.0 c.slot.ensures (sym c.lasts.ensures ∙ c.if-not-lasts.true) c.place_of.ensures.1
 
-pub returns-then-lasts : goal.returns-then-lasts
-returns-then-lasts c = skipping_stop _ _ _ _ c.loop-len.invariant (c.loop-len.len - 1) _ (omega arith) refl (sym c.lasts.ensures ∙ c.if-lasts.true)
+pub returns-else-not-lasts : goal.returns-else-not-lasts
+returns-else-not-lasts c =
+    skipping_stop _ _ _ _ c.loop-led.invariant (c.loop-led.led.len - 1) _ _ (omega arith) refl c.slot.ensures (sym c.lasts.ensures ∙ c.if-not-lasts.false)
 
-pub loop-len-preserved : goal.loop-len-preserved
-loop-len-preserved c =
-    skipping_next _ _ _ _ c.loop-len.invariant (c.loop-len.len - 1) _ (omega arith) c.place_of-head.ensures.0 (sym c.lasts.ensures ∙ c.if-lasts.false) c.place_of-head.ensures.1
-
-pub returns : goal.returns
-returns c = skipping_end _ _ _ _ c.loop-len.invariant (omega arith)
+pub returns-after-loop-led : goal.returns-after-loop-led
+returns-after-loop-led c = skipping_end _ _ _ _ c.loop-led.invariant (omega arith)

@@ -1,9 +1,8 @@
 use Rattle.queue.proofs.Clearing.{Skipping}
 use Rattle.queue.proofs.Ring.skip.Given as goal
 
-abbrev pub invariant-loop-len : goal.invariant-loop-len
-invariant-loop-len l =
-    Skipping (record { head = l.initial.head; len = l.initial.len; room = l.room; chrom = l.chrom }) (record { head = l.head; len = l.len; room = l.room; chrom = l.chrom }) l.queue l.from
+abbrev pub invariant-loop-led : goal.invariant-loop-led
+invariant-loop-led l = Skipping l.fn.self l.led l.queue l.from
 
-abbrev pub decreases-loop-len : goal.decreases-loop-len
-decreases-loop-len l = l.len
+abbrev pub decreases-loop-led : goal.decreases-loop-led
+decreases-loop-led l = l.led.len
