@@ -1,6 +1,6 @@
 -- Lines laid one behind the other: what a loop that writes them cites.
 use Prim.Native.Nat.{ℕ, ◌+◌, ◌-◌, ◌≤◌, ◌<◌}
-use mathlib.Core.Path.{◌≡◌, refl, sym, ap, ◌∙◌}
+use mathlib.Core.Path.{◌≡◌, refl, sym, ap, subst, ◌∙◌}
 use mathlib.Core.Bool.{Bool, true, false, cond}
 use mathlib.Core.List.{List, [], ◌∷◌, ◌++◌, append_assoc, append-nil}
 use native.Mathlib.Omega.{arith}
@@ -198,3 +198,15 @@ lays_more ls v w = lays_append ls (lays_put v) w
 -- a line that did not fit: whatever is to follow, nothing is written
 pub lays_stop : {old new : List ℕ} {at : ℕ} {l : List ℕ} (ls : List (List ℕ)) → at ≤ length old → Puts old at l None new → Lays old at (l ∷ ls) (cut at) new
 lays_stop ls h v = lays_part ls (lays_full h v)
+
+-- ---- a line, by what `ok_or` makes of it
+
+-- it fits
+pub put_fits : (put : Option ℕ) (c : Cut) {p : ℕ} → ok_or put c ≡ Ok p → put ≡ Some p
+put_fits (Some q) c e = cc
+put_fits None c e = cc
+
+-- it did not fit: whatever is to follow, nothing is written
+pub lays_cut : {old new : List ℕ} {at : ℕ} {l : List ℕ} (put : Option ℕ) {c : Cut} (ls : List (List ℕ)) → at ≤ length old → Puts old at l put new → ok_or put (record { 0 = at }) ≡ Err c → Lays old at (l ∷ ls) (Err c) new
+lays_cut (Some p) ls h v e = let z : ◌≡◌ {A = ℕ} 0 1 = cc in absurd (omega arith)
+lays_cut {old} {new} {at} {l} None ls h v e = subst (λ (r : Result ℕ Cut). Lays old at (l ∷ ls) r new) e (lays_stop ls h v)

@@ -1,2 +1,3 @@
--- A run inside a listing.
+-- A run inside a listing, and what the texts hold.
 pub mod Run
+pub mod Tables
