@@ -4,12 +4,8 @@ use Rattle.listing.proofs.Written.{reads_fault}
 use Rattle.listing.proofs.list_columns.Goals as goal
 
 pub list_run-requires : goal.list_run-requires
-list_run-requires c =
-    fine_read c.read_texts-read.ensures c.in-Fine.is
-
-pub only-requires : goal.only-requires
-only-requires c = tt
+list_run-requires c = fine_read c.read_texts-read.ensures c.in_default.is
 
 pub returns-in-Fault : goal.returns-in-Fault
 returns-in-Fault c =
-    reads_fault c.read_texts-read.ensures c.in-Fault.is c.put_fault-put.ensures c.only.ensures
+    reads_fault c.read_texts-read.ensures c.in-Fault.is c.put_fault.ensures c.ok_or.ensures.value
