@@ -7,7 +7,7 @@ use lib.ListN.{length, get_or, drop, length-append, length-map}
 use Rattle.basics.specs.Build.{build}
 use Rattle.basics.proofs.EdgeLaws.{build_shift}
 use Rattle.rules.specs.declared.Base.{Base}
-use Rattle.rules.specs.declared.Offer.{Offer}
+use Rattle.rules.specs.Offered.{Offer}
 use Rattle.rules.specs.declared.Answer.{Answer}
 use Rattle.rules.specs.Rows.{Record}
 use Rattle.rules.specs.Call.{Reply, found, refused, ended, answer_of, column}

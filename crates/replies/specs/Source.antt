@@ -2,7 +2,7 @@
 use Rattle.std.specs.Prelude.{◌≡◌, List, [], ◌∷◌, ℕ, ◌≤◌, length, get_or}
 use Rattle.basics.specs.Build.{build}
 use Rattle.rules.specs.declared.Base.{Base}
-use Rattle.rules.specs.declared.Offer.{Offer}
+use Rattle.rules.specs.Offered.{Offer}
 use Rattle.rules.specs.declared.Answer.{Answer}
 use Rattle.rules.specs.declared.Answer.TheVariants.{Found, Refused, Ended}
 use Rattle.rules.specs.Numbers.{refusal_number, end_number, end_values}

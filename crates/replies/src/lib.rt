@@ -106,7 +106,7 @@ fn put_end(out: &mut [u8], at: usize, e: End, row: u64) -> Option<usize>
     requires { at ≤ length out.old }
     ensures { Puts out.old at (line_e (end_number e) row (end_values e)) result out.new }
 {
-    let number = measures::end_number(e);
+    let number = e.number();
     match e {
         End::Faulty(s, k) | End::Unsorted(s, k) => lines::put_x_row(out, at, number, row, s.0, k),
         End::NoRoom | End::NoRows => lines::put_x(out, at, number, row),
@@ -130,9 +130,7 @@ fn put_answer(
     }
     match answer {
         Answer::Found(n, _) => put_found(out, at, n, entry, rows),
-        Answer::Refused(x) => {
-            lines::put_x(out, at, measures::refusal_number(x), entry.row).ok_or(Cut(at))
-        }
+        Answer::Refused(x) => { lines::put_x(out, at, x.number(), entry.row).ok_or(Cut(at)) }
         Answer::Ended(e) => put_end(out, at, e, entry.row).ok_or(Cut(at)),
     }
 }
@@ -155,16 +153,7 @@ pub fn list_base(
         out.new }
 {
     let from = run.from;
-    let given = sweep::give(
-        run,
-        entry.base,
-        columns.chrom,
-        columns.start,
-        columns.stop,
-        lengths,
-        queue,
-        answers,
-    );
+    let given = sweep::give(run, entry.base, columns, lengths, queue, answers);
     let rows = Rows {
         columns,
         from: &from,

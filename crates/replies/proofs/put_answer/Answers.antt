@@ -8,7 +8,7 @@ returns-then-out-at c = lays_past _ _ _ (omega arith)
 
 pub returns-in-Refused : goal.returns-in-Refused
 returns-in-Refused c =
-    rw (c.in-Refused.is, c.ok_or.ensures.value) (lays_only _ (omega arith) (rw c.refusal_number.ensures at c.put_x.ensures))
+    rw (c.in-Refused.is, c.ok_or.ensures.value) (lays_only _ (omega arith) (rw c.number.ensures at c.put_x.ensures))
 
 pub returns-in-Ended : goal.returns-in-Ended
 returns-in-Ended c = rw (c.in-Ended.is, c.ok_or-in-Ended.ensures.value) (lays_only _ (omega arith) c.put_end.ensures)
