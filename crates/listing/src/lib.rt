@@ -3,22 +3,21 @@
 
 ghost use Rattle.std.specs.Prelude.{◌≡◌, length};
 ghost use Rattle.fields.specs.Names.{listed};
-ghost use Rattle.heads.specs.View.{cols, cols_of};
+ghost use Rattle.heads.specs.View.{cols_of};
 ghost use Rattle.lines.specs.Laid.{Lays};
 ghost use Rattle.inputs.specs.Texts.{rows_most, room};
 ghost use Rattle.inputs.specs.Parted.{texts_of};
-ghost use Rattle.inputs.specs.Read.{Rooms};
-ghost use Rattle.walk.specs.Run.{Comes, Bases, Fine};
+ghost use Rattle.walk.specs.Run.{Comes, Bases};
+ghost use Rattle.walk.specs.Memory.{FineIn};
 ghost use Rattle.listing.specs.Listing.{listing};
 ghost use Rattle.listing.specs.Run.{lines_from, step_of, told_of};
 ghost use Rattle.listing.specs.Call.{Writes};
 
-use heads::Columns;
 use inputs::{Read, Verdict};
 use lines::Cut;
 use rules::Answer;
 use runs::Run;
-use walk::Tables;
+use walk::{Memory, Tables};
 
 // 0, or 14 where the listing is longer than its buffer; and how many bytes of it stand there.
 #[repr(C)]
@@ -74,54 +73,31 @@ fn list_run(
     read: Read,
     bytes: &[u8],
     ends: &[usize],
-    from: &[usize],
-    to: &[usize],
-    len: &[u64],
-    bases: Columns,
-    rows: Columns,
+    memory: &Memory,
     out: &mut [u8],
 ) -> Result<usize, Cut>
-    requires { Fine (texts_of bytes.now ends.now) read from.now to.now len.now (cols_of bases) (cols_of rows) }
+    requires { FineIn (texts_of bytes.now ends.now) read memory.now }
     ensures { Lays out.old 0 (listing (texts_of bytes.now ends.now)) result out.new }
 {
-    let tables = Tables::of(read, bytes, ends, from, to, len, bases, rows);
-    let run = walk::begin(read, tables.names, rows);
+    let tables = memory.tables(read, bytes, ends);
+    let run = walk::begin(read, tables);
     let mut queue = [[0; 4]; 1024];
     let mut answers = [[0; 2]; 1024];
     list_bases(run, read.bases, tables, &mut queue, &mut answers, out)
 }
 
-// The listing of texts, by way of lent columns: a fault before the run gives one line, else the bases are listed.
-fn list_columns(
-    bytes: &[u8],
-    ends: &[usize],
-    from: &mut [usize],
-    to: &mut [usize],
-    len: &mut [u64],
-    bchrom: &mut [u64],
-    bstart: &mut [u64],
-    bstop: &mut [u64],
-    chrom: &mut [u64],
-    start: &mut [u64],
-    stop: &mut [u64],
-    out: &mut [u8],
-) -> Result<usize, Cut>
-    requires { Rooms from.old to.old len.old (cols bchrom.old bstart.old bstop.old) (cols chrom.old start.old stop.old) }
+// The listing of texts: a fault before the run gives one line, else the bases are listed.
+fn list_texts(bytes: &[u8], ends: &[usize], out: &mut [u8]) -> Result<usize, Cut>
     ensures { Lays out.old 0 (listing (texts_of bytes.now ends.now)) result out.new }
 {
-    let read = inputs::read_texts(
-        bytes, ends, from, to, len, bchrom, bstart, bstop, chrom, start, stop,
-    );
-    if let Verdict::Fault(number, text, ahead) = read.verdict {
-        return lines::put_fault(out, 0, number, text, ahead).ok_or(Cut(0));
+    let mut memory = Memory::new();
+    let read = memory.read(bytes, ends);
+    match read.verdict {
+        Verdict::Fine => list_run(read, bytes, ends, &memory, out),
+        Verdict::Fault(number, text, ahead) => {
+            lines::put_fault(out, 0, number, text, ahead).ok_or(Cut(0))
+        }
     }
-    let bases = Columns {
-        chrom: bchrom,
-        start: bstart,
-        stop: bstop,
-    };
-    let rows = Columns { chrom, start, stop };
-    list_run(read, bytes, ends, from, to, len, bases, rows, out)
 }
 
 // What became of the lines, in numbers.
@@ -135,33 +111,10 @@ fn told(lines: Result<usize, Cut>) -> Listing
 }
 
 // Writes the whole listing of texts to a buffer. Given are the texts one behind the other, the chromosome list, the bases and
-// each stream, and where each of them ends. The memory is of a fixed size, since a host's call takes no heap.
+// each stream, and where each of them ends.
 #[unsafe(no_mangle)]
 pub extern "C" fn cedarlash_list(bytes: &[u8], ends: &[usize], out: &mut [u8]) -> Listing
     ensures { Writes (texts_of bytes.now ends.now) out.old result out.new }
 {
-    let mut from = [0; 1024];
-    let mut to = [0; 1024];
-    let mut len = [0; 1024];
-    let mut bchrom = [0; 1024];
-    let mut bstart = [0; 1024];
-    let mut bstop = [0; 1024];
-    let mut chrom = [0; 8192];
-    let mut start = [0; 8192];
-    let mut stop = [0; 8192];
-    let lines = list_columns(
-        bytes,
-        ends,
-        &mut from,
-        &mut to,
-        &mut len,
-        &mut bchrom,
-        &mut bstart,
-        &mut bstop,
-        &mut chrom,
-        &mut start,
-        &mut stop,
-        out,
-    );
-    told(lines)
+    told(list_texts(bytes, ends, out))
 }

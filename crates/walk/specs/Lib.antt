@@ -1,3 +1,3 @@
--- A run inside a listing, and what the texts hold.
+-- A run inside a listing, and the memory of its texts.
 pub mod Run
-pub mod Tables
+pub mod Memory

@@ -11,8 +11,8 @@ ghost use Rattle.replies.specs.List.{Lists};
 ghost use Rattle.inputs.specs.Texts.{rows_most, room};
 ghost use Rattle.inputs.specs.Parted.{texts_of};
 ghost use Rattle.inputs.specs.Read.{base_in};
-ghost use Rattle.walk.specs.Run.{Bases, Fine, plan_of};
-ghost use Rattle.walk.specs.Tables.{Stands};
+ghost use Rattle.walk.specs.Run.{Bases, plan_of};
+ghost use Rattle.walk.specs.Memory.{IsEmpty, ReadsTo, FineIn, Stands};
 
 use fields::NameList;
 use heads::Columns;
@@ -30,30 +30,82 @@ pub struct Tables<'a> {
     pub rows: Columns<'a>,
 }
 
-impl<'a> Tables<'a> {
-    // The tables of texts that were read, with nothing wrong: the texts and where they end, the names' columns, the bases' and the rows'.
-    pub fn of(
-        read: Read,
-        bytes: &'a [u8],
-        ends: &[usize],
-        from: &'a [usize],
-        to: &'a [usize],
-        lengths: &'a [u64],
-        bases: Columns<'a>,
-        rows: Columns<'a>,
-    ) -> Tables<'a>
-        requires { Fine (texts_of bytes.now ends.now) read from.now to.now lengths.now (cols_of bases) (cols_of rows) }
-        ensures { Stands bytes.now ends.now read from.now to.now lengths.now (cols_of bases.entry) (cols_of rows.entry) result }
+// The memory that a listing's texts are read to: where each name begins and ends, the chromosomes' lengths, the bases and, in eight parts, the
+// streams' rows. It is of a fixed size, since a host's call takes no heap.
+#[derive(Drop)]
+pub struct Memory {
+    pub from: [usize; 1024],
+    pub to: [usize; 1024],
+    pub lengths: [u64; 1024],
+    pub base_chrom: [u64; 1024],
+    pub base_start: [u64; 1024],
+    pub base_stop: [u64; 1024],
+    pub chrom: [u64; 8192],
+    pub start: [u64; 8192],
+    pub stop: [u64; 8192],
+}
+
+impl Memory {
+    // Memory with nothing read to it.
+    pub fn new() -> Memory
+        ensures { IsEmpty result }
+    {
+        Memory {
+            from: [0; 1024],
+            to: [0; 1024],
+            lengths: [0; 1024],
+            base_chrom: [0; 1024],
+            base_start: [0; 1024],
+            base_stop: [0; 1024],
+            chrom: [0; 8192],
+            start: [0; 8192],
+            stop: [0; 8192],
+        }
+    }
+
+    // Reads all texts, and says what is wrong before the run. Given are the texts one behind the other and where each ends.
+    pub fn read(&mut self, bytes: &[u8], ends: &[usize]) -> Read
+        ensures { ReadsTo (texts_of bytes.now ends.now) result self.new }
+    {
+        inputs::read_texts(
+            bytes,
+            ends,
+            &mut self.from,
+            &mut self.to,
+            &mut self.lengths,
+            &mut self.base_chrom,
+            &mut self.base_start,
+            &mut self.base_stop,
+            &mut self.chrom,
+            &mut self.start,
+            &mut self.stop,
+        )
+    }
+
+    // The tables of texts that were read, with nothing wrong.
+    pub fn tables<'a>(&'a self, read: Read, bytes: &'a [u8], ends: &[usize]) -> Tables<'a>
+        requires { FineIn (texts_of bytes.now ends.now) read self.now }
+        ensures { Stands bytes.now ends.now read self.now result }
     {
         let n = read.names;
         let names = NameList {
             text: &bytes[..ends[0]],
-            from: &from[..n],
-            to: &to[..n],
+            from: &self.from[..n],
+            to: &self.to[..n],
+        };
+        let bases = Columns {
+            chrom: &self.base_chrom,
+            start: &self.base_start,
+            stop: &self.base_stop,
+        };
+        let rows = Columns {
+            chrom: &self.chrom,
+            start: &self.start,
+            stop: &self.stop,
         };
         Tables {
             names,
-            lengths: &lengths[..n],
+            lengths: &self.lengths[..n],
             bases,
             rows,
         }
@@ -61,11 +113,13 @@ impl<'a> Tables<'a> {
 }
 
 // The run of texts that were read, with nothing wrong.
-pub fn begin(read: Read, names: NameList, columns: Columns) -> Run
-    requires { (read.names ≤ length names.from.now) × (read.names ≤ length names.to.now) }
-    ensures { result ≡ (start_of (plan_of read names.entry.text.now names.entry.from.now names.entry.to.now (cols_of columns.entry))).run }
+pub fn begin(read: Read, tables: Tables) -> Run
+    requires { (read.names ≤ length tables.names.from.now) × (read.names ≤ length tables.names.to.now) }
+    ensures { result ≡ (start_of (plan_of read tables.entry.names.text.now tables.entry.names.from.now tables.entry.names.to.now (cols_of tables.entry.rows))).run }
 {
     let n = read.names;
+    let names = tables.names;
+    let rows = tables.rows;
     let places = [0, 1024, 2048, 3072, 4096, 5120, 6144, 7168];
     let fixed = Settings {
         streams: read.streams,
@@ -79,9 +133,9 @@ pub fn begin(read: Read, names: NameList, columns: Columns) -> Run
         names.text,
         &names.from[..n],
         &names.to[..n],
-        columns.chrom,
-        columns.start,
-        columns.stop,
+        rows.chrom,
+        rows.start,
+        rows.stop,
     );
     started.run
 }
