@@ -3,5 +3,4 @@ use Rattle.walk.proofs.FineLaws.{fine_read}
 use Rattle.listing_program.proofs.listing.list_texts.Goals as goal
 
 pub list_read-requires : goal.list_read-requires
-list_read-requires g c =
-    fine_read c.read_texts-read.ensures c.in-Fine.is
+list_read-requires g c = fine_read c.read-read.ensures c.in-Fine.is
