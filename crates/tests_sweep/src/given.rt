@@ -1,8 +1,9 @@
 // A run begins, and a base is given to it; what comes is written.
 use crate::SLOTS;
 use crate::cases::{Bench, Memory, Rows};
+use fields::NameList;
 use rules::{Answer, Base, End, Offer, Settings, Unbegun};
-use runs::{Begins, Run};
+use runs::Run;
 use std::io;
 use tests_shared::{at, front, name_ends, name_starts, name_text, part_mut};
 
@@ -97,11 +98,10 @@ pub fn give(rt: &impl Print, bench: &Bench, b: Base, memory: &mut Memory) -> io:
 }
 
 // Whether a run begins.
-fn show_start(rt: &impl Print, b: Begins) -> io::Result<()> {
-    match b {
-        Begins::Begun => print!(rt; ": begun"),
-        Begins::Refused(Unbegun::Sizes) => print!(rt; ": refused 1"),
-        Begins::Refused(Unbegun::Names) => print!(rt; ": refused 2"),
+fn show_start(rt: &impl Print, started: Result<Run, Unbegun>) -> io::Result<()> {
+    match started {
+        Ok(_) => print!(rt; ": begun"),
+        Err(x) => print!(rt; ": refused {}", x.number()),
     }
 }
 
@@ -122,17 +122,12 @@ pub fn begin(rt: &impl Print, bench: &Bench, room: usize, rows: &Rows) -> io::Re
         room,
     };
     let rows = rows.lent(lens);
-    let started = Run::start(
-        fixed,
-        plan.from,
-        plan.to,
-        &text,
-        front(&from, lens[6]),
-        front(&to, lens[7]),
-        rows.chrom,
-        rows.start,
-        rows.stop,
-    );
-    show_start(rt, started.begins)?;
-    Ok(started.run)
+    let names = NameList {
+        text: &text,
+        from: front(&from, lens[6]),
+        to: front(&to, lens[7]),
+    };
+    let started = Run::start(fixed, plan.from, plan.to, names, rows);
+    show_start(rt, started)?;
+    Ok(started.unwrap_or(Run::none()))
 }
