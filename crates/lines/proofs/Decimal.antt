@@ -6,6 +6,7 @@ use mathlib.Core.Bool.{true}
 use native.Mathlib.Omega.{arith}
 use native.Mathlib.Decide.{dec_lt}
 use native.Mathlib.Nat.{pow-suc}
+use native.Mathlib.Numerals.{add-one}
 use lib.ListN.{length, length-append}
 use borrow.Author.Tests.{lt-ltb, le-ltb}
 use Rattle.fields.specs.Number.{good, digits, value, is_digit, number_of}
@@ -76,9 +77,61 @@ places_within (suc k) n h = go (dec_lt n 10) (λ l. places_within k (n / 10) l)
     go (yes l) ih = omega (arith, places_one n l)
     go (no l) ih = omega (arith, places_more n (omega arith), ih (omega (arith, h, pow-suc 10 (suc k))))
 
+ten_some : (k : ℕ) → 1 ≤ 10 ^ k
+ten_some zero = omega arith
+ten_some (suc k) = omega (arith, pow-suc 10 k, ten_some k)
+
+-- a number of 10 ^ k or more has more than k digits
+places_beyond : (k n : ℕ) → 10 ^ k ≤ n → suc k ≤ length (decimal n)
+places_beyond zero n h = places_some n
+places_beyond (suc k) n h =
+    let p : 10 ^ suc k ≡ 10 ^ k * 10 = pow-suc 10 k in
+    let one : 1 ≤ 10 ^ k = ten_some k in
+    omega (arith, places_more n (omega (arith, p, one)), places_beyond k (n / 10) (omega (arith, p)))
+
+-- so that its digits are counted by the powers of 10 that lie below it
+pub places_power : (k n : ℕ) → 10 ^ k ≤ n → n < 10 * 10 ^ k → length (decimal n) ≡ k + 1
+places_power k n low high =
+    omega (arith, places_beyond k n low, places_within k n (omega (arith, pow-suc 10 k)))
+
 -- "1 to 20 digits"
 pub places_few : (n : ℕ) → n ≤ 18446744073709551615 → length (decimal n) ≤ 20
 places_few n h = places_within 19 n (omega arith)
+
+-- ---- the last digit first
+
+-- the last k digits of a number, zeros ahead of its first
+unfoldable pub padded : ℕ → ℕ → List ℕ
+padded zero n = []
+padded (suc k) n = padded k (n / 10) ++ (digit (n % 10) ∷ [])
+
+pub padded_length : (k n : ℕ) → length (padded k n) ≡ k
+unfolding padded
+padded_length zero n = refl
+padded_length (suc k) n = omega (arith, length-append (padded k (n / 10)) (digit (n % 10) ∷ []), padded_length k (n / 10))
+
+-- the last digit, and those ahead of it
+pub padded_last : (k n : ℕ) → padded (k + 1) n ≡ padded k (n / 10) ++ (digit (n % 10) ∷ [])
+unfolding padded
+padded_last k n = rw (add-one k)
+
+pub padded_none : (n : ℕ) → padded 0 n ≡ []
+unfolding padded
+padded_none n = refl
+
+-- as many as the number has are the number
+pub padded_all : (n : ℕ) → padded (length (decimal n)) n ≡ decimal n
+padded_all n =
+    by_digits
+    (λ m. padded (length (decimal m)) m ≡ decimal m)
+    (λ m h. one m h)
+    (λ m h ih. rw (places_more m h, padded_last (length (decimal (m / 10))) m, ih) (sym (decimal_more m h)))
+    n
+  where
+    one : (m : ℕ) → m < 10 → padded (length (decimal m)) m ≡ decimal m
+    one m h =
+        let e : m % 10 ≡ m = omega arith in
+        rw (places_one m h, padded_last 0 m, padded_none (m / 10), e) (sym (decimal_one m h))
 
 -- ---- read back
 

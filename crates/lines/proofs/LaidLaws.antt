@@ -1,6 +1,6 @@
 -- Lines laid one behind the other: what a loop that writes them cites.
 use Prim.Native.Nat.{ℕ, ◌+◌, ◌-◌, ◌≤◌, ◌<◌}
-use mathlib.Core.Path.{◌≡◌, refl, sym, ap, ◌∙◌}
+use mathlib.Core.Path.{◌≡◌, refl, sym, ap, subst, ◌∙◌}
 use mathlib.Core.Bool.{Bool, true, false, cond}
 use mathlib.Core.List.{List, [], ◌∷◌, ◌++◌, append_assoc, append-nil}
 use native.Mathlib.Omega.{arith}
@@ -8,12 +8,10 @@ use native.Mathlib.Decide.{dec_le}
 use borrow.Author.Tests.{leb-true, leb-false, le-leb, lt-leb}
 use lib.Dec.{leb}
 use lib.ListN.{length, length-append}
-use Rattle.lines.specs.declared.Put.{Put}
-use Rattle.lines.specs.declared.Put.TheVariants.{At, Full}
-use Rattle.lines.specs.declared.Laid.{Laid}
-use Rattle.lines.specs.declared.Laid.TheVariants.{Whole, Part}
+use Rattle.std.specs.Prelude.{Option, Some, None, Result, Ok, Err, ok_or}
+use Rattle.lines.specs.declared.Cut.{Cut}
 use Rattle.lines.specs.Put.{laid, Puts}
-use Rattle.lines.specs.Laid.{joined, fitting, fitted, only_of, Lays}
+use Rattle.lines.specs.Laid.{joined, fitting, fitted, cut, Lays}
 use Rattle.lines.proofs.Laying.{laid_none, length_laid, laid_append}
 use Rattle.lines.proofs.Putting.{puts_at, puts_full}
 
@@ -81,59 +79,64 @@ module _ (old : List ℕ) (at : ℕ) (ls : List (List ℕ)) where
 -- ---- what an answer says
 
 -- the answer, by the place behind all lines, the buffer's length and the place behind those that fit
-abbrev said : ℕ → ℕ → ℕ → Laid
-said stop size part = cond (leb stop size) (Whole stop) (Part part)
+abbrev said : ℕ → ℕ → ℕ → Result ℕ Cut
+said stop size part = cond (leb stop size) (Ok stop) (cut part)
+
+-- the place that an answer names
+abbrev place_in : Result ℕ Cut → ℕ
+place_in (Ok p) = p
+place_in (Err c) = c.0
 
 module _ (stop size part : ℕ) where
-  said_whole : {p : ℕ} → Whole p ≡ said stop size part → (stop ≤ size) × (p ≡ stop)
+  said_whole : {p : ℕ} → Ok p ≡ said stop size part → (stop ≤ size) × (p ≡ stop)
   said_whole {p} e = go (leb stop size) refl e
     where
-      go : (t : Bool) → leb stop size ≡ t → Whole p ≡ cond t (Whole stop) (Part part) → (stop ≤ size) × (p ≡ stop)
+      go : (t : Bool) → leb stop size ≡ t → Ok p ≡ cond t (Ok stop) (cut part) → (stop ≤ size) × (p ≡ stop)
       go true e f = (leb-true stop size e, cc)
       go false e f = let z : ◌≡◌ {A = ℕ} 0 1 = cc in absurd (omega arith)
 
-  said_part : {p : ℕ} → Part p ≡ said stop size part → (size < stop) × (p ≡ part)
+  said_part : {p : ℕ} → cut p ≡ said stop size part → (size < stop) × (p ≡ part)
   said_part {p} e = go (leb stop size) refl e
     where
-      go : (t : Bool) → leb stop size ≡ t → Part p ≡ cond t (Whole stop) (Part part) → (size < stop) × (p ≡ part)
-      go false e f = (leb-false stop size e, cc)
+      go : (t : Bool) → leb stop size ≡ t → cut p ≡ cond t (Ok stop) (cut part) → (size < stop) × (p ≡ part)
+      go false e f = (leb-false stop size e, ap place_in f)
       go true e f = let z : ◌≡◌ {A = ℕ} 0 1 = cc in absurd (omega arith)
 
 module _ {old : List ℕ} {at : ℕ} {ls : List (List ℕ)} {new : List ℕ} where
-  pub lays_length : {r : Laid} → Lays old at ls r new → length new ≡ length old
+  pub lays_length : {r : Result ℕ Cut} → Lays old at ls r new → length new ≡ length old
   lays_length w = ap length w.written ∙ laid_length old at ls
 
   -- all lines stand
-  pub lays_whole : {p : ℕ} → Lays old at ls (Whole p) new → (at + length (joined ls) ≤ length old) × (p ≡ at + length (joined ls)) × (new ≡ laid old at (joined ls))
+  pub lays_whole : {p : ℕ} → Lays old at ls (Ok p) new → (at + length (joined ls) ≤ length old) × (p ≡ at + length (joined ls)) × (new ≡ laid old at (joined ls))
   lays_whole w =
       let a = said_whole (at + length (joined ls)) (length old) (at + length (fitted old at ls)) w.answer in
       (a.0, a.1, w.written ∙ rw (fitted_all old at ls a.0))
 
   -- where the next line goes lies within the buffer
-  pub lays_inside : {p : ℕ} → Lays old at ls (Whole p) new → p ≤ length new
+  pub lays_inside : {p : ℕ} → Lays old at ls (Ok p) new → p ≤ length new
   lays_inside w = let a = lays_whole w in omega (arith, lays_length w)
 
 -- any two results are equal
-pub lays_alike : {old : List ℕ} {at : ℕ} {ls : List (List ℕ)} {r s : Laid} {new also : List ℕ} → Lays old at ls r new → Lays old at ls s also → (r ≡ s) × (new ≡ also)
+pub lays_alike : {old : List ℕ} {at : ℕ} {ls : List (List ℕ)} {r s : Result ℕ Cut} {new also : List ℕ} → Lays old at ls r new → Lays old at ls s also → (r ≡ s) × (new ≡ also)
 lays_alike v w = (v.answer ∙ sym w.answer, v.written ∙ sym w.written)
 
 -- ---- lines behind lines
 
 -- no lines
-pub lays_none : (old : List ℕ) (at : ℕ) → at ≤ length old → Lays old at [] (Whole at) old
+pub lays_none : (old : List ℕ) (at : ℕ) → at ≤ length old → Lays old at [] (Ok at) old
 lays_none old at h =
     let e : at + 0 ≡ at = omega arith in
     record { answer = rw (e, le-leb at (length old) h); written = sym (laid_none old at) }
 
 -- nothing is written past the end
-pub lays_past : (old : List ℕ) (at : ℕ) (ls : List (List ℕ)) → length old < at → Lays old at ls (Part at) old
+pub lays_past : (old : List ℕ) (at : ℕ) (ls : List (List ℕ)) → length old < at → Lays old at ls (cut at) old
 lays_past old at ls h =
     let e : at + 0 ≡ at = omega arith in
     let f = fitted_past old at ls (omega arith) in
     record { answer = rw (lt-leb (at + length (joined ls)) (length old) (omega arith), f, e); written = sym (rw f (laid_none old at)) }
 
 -- all of them stand, and further ones are laid behind them
-pub lays_append : {old m new : List ℕ} {at p : ℕ} {ls : List (List ℕ)} {r : Laid} (ms : List (List ℕ)) → Lays old at ls (Whole p) m → Lays m p ms r new → Lays old at (ls ++ ms) r new
+pub lays_append : {old m new : List ℕ} {at p : ℕ} {ls : List (List ℕ)} {r : Result ℕ Cut} (ms : List (List ℕ)) → Lays old at ls (Ok p) m → Lays m p ms r new → Lays old at (ls ++ ms) r new
 lays_append {old} {m} {new} {at} {p} {ls} {r} ms v w =
     let a = lays_whole v in
     let k : length m ≡ length old = lays_length v in
@@ -148,15 +151,15 @@ lays_append {old} {m} {new} {at} {p} {ls} {r} ms v w =
     }
 
 -- a line did not fit: whatever is to follow, nothing more is written
-pub lays_part : {old new : List ℕ} {at p : ℕ} {ls : List (List ℕ)} (ms : List (List ℕ)) → Lays old at ls (Part p) new → Lays old at (ls ++ ms) (Part p) new
+pub lays_part : {old new : List ℕ} {at p : ℕ} {ls : List (List ℕ)} (ms : List (List ℕ)) → Lays old at ls (cut p) new → Lays old at (ls ++ ms) (cut p) new
 lays_part {old} {new} {at} {p} {ls} ms v = go (dec_le at (length old))
   where
-    go : Dec (at ≤ length old) → Lays old at (ls ++ ms) (Part p) new
+    go : Dec (at ≤ length old) → Lays old at (ls ++ ms) (cut p) new
     go (yes h) =
         let a = said_part (at + length (joined ls)) (length old) (at + length (fitted old at ls)) v.answer in
         let f = fit_part (length old - at) ls ms (omega arith) in
         record {
-          answer = rw (lt-leb (at + length (joined (ls ++ ms))) (length old) (omega (arith, joined_length ls ms)), f) (ap (λ (n : ℕ). Part n) a.1);
+          answer = rw (lt-leb (at + length (joined (ls ++ ms))) (length old) (omega (arith, joined_length ls ms)), f) (ap (λ (n : ℕ). cut n) a.1);
           written = rw f v.written;
         }
     go (no h) =
@@ -166,14 +169,14 @@ lays_part {old} {new} {at} {p} {ls} ms v = go (dec_le at (length old))
 -- ---- one line
 
 module _ {old new : List ℕ} {at : ℕ} {l : List ℕ} where
-  pub lays_put : {p : ℕ} → Puts old at l (At p) new → Lays old at (l ∷ []) (Whole p) new
+  pub lays_put : {p : ℕ} → Puts old at l (Some p) new → Lays old at (l ∷ []) (Ok p) new
   lays_put {p} v =
       let a = puts_at v in
       let e : at + length (joined (l ∷ [])) ≡ p = rw append-nil (sym a.1) in
       let f = fitted_all old at (l ∷ []) (omega arith) ∙ append-nil l in
       record { answer = rw (e, le-leb p (length old) (omega arith)); written = a.2 ∙ rw f }
 
-  pub lays_full : at ≤ length old → Puts old at l Full new → Lays old at (l ∷ []) (Part at) new
+  pub lays_full : at ≤ length old → Puts old at l None new → Lays old at (l ∷ []) (cut at) new
   lays_full h v =
       let a = puts_full v in
       let e : at + 0 ≡ at = omega arith in
@@ -184,14 +187,26 @@ module _ {old new : List ℕ} {at : ℕ} {l : List ℕ} where
       }
 
 -- the only line
-pub lays_only : {old new : List ℕ} {at : ℕ} {l : List ℕ} (p : Put) → at ≤ length old → Puts old at l p new → Lays old at (l ∷ []) (only_of p at) new
-lays_only (At p) h v = lays_put v
-lays_only Full h v = lays_full h v
+pub lays_only : {old new : List ℕ} {at : ℕ} {l : List ℕ} (p : Option ℕ) → at ≤ length old → Puts old at l p new → Lays old at (l ∷ []) (ok_or p (record { 0 = at })) new
+lays_only (Some p) h v = lays_put v
+lays_only None h v = lays_full h v
 
 -- a line, and further ones are laid behind it
-pub lays_more : {old m new : List ℕ} {at p : ℕ} {l : List ℕ} {r : Laid} (ls : List (List ℕ)) → Puts old at l (At p) m → Lays m p ls r new → Lays old at (l ∷ ls) r new
+pub lays_more : {old m new : List ℕ} {at p : ℕ} {l : List ℕ} {r : Result ℕ Cut} (ls : List (List ℕ)) → Puts old at l (Some p) m → Lays m p ls r new → Lays old at (l ∷ ls) r new
 lays_more ls v w = lays_append ls (lays_put v) w
 
 -- a line that did not fit: whatever is to follow, nothing is written
-pub lays_stop : {old new : List ℕ} {at : ℕ} {l : List ℕ} (ls : List (List ℕ)) → at ≤ length old → Puts old at l Full new → Lays old at (l ∷ ls) (Part at) new
+pub lays_stop : {old new : List ℕ} {at : ℕ} {l : List ℕ} (ls : List (List ℕ)) → at ≤ length old → Puts old at l None new → Lays old at (l ∷ ls) (cut at) new
 lays_stop ls h v = lays_part ls (lays_full h v)
+
+-- ---- a line, by what `ok_or` makes of it
+
+-- it fits
+pub put_fits : (put : Option ℕ) (c : Cut) {p : ℕ} → ok_or put c ≡ Ok p → put ≡ Some p
+put_fits (Some q) c e = cc
+put_fits None c e = cc
+
+-- it did not fit: whatever is to follow, nothing is written
+pub lays_cut : {old new : List ℕ} {at : ℕ} {l : List ℕ} (put : Option ℕ) {c : Cut} (ls : List (List ℕ)) → at ≤ length old → Puts old at l put new → ok_or put (record { 0 = at }) ≡ Err c → Lays old at (l ∷ ls) (Err c) new
+lays_cut (Some p) ls h v e = let z : ◌≡◌ {A = ℕ} 0 1 = cc in absurd (omega arith)
+lays_cut {old} {new} {at} {l} None ls h v e = subst (λ (r : Result ℕ Cut). Lays old at (l ∷ ls) r new) e (lays_stop ls h v)

@@ -1,42 +1,46 @@
 -- A number's digits written the last one first: what is left to write gives the same list.
 use Prim.Native.Nat.{ℕ, ◌+◌, ◌-◌, ◌/◌, ◌%◌, ◌≤◌, ◌<◌}
-use mathlib.Core.Path.{◌≡◌, refl, sym, ◌∙◌}
-use mathlib.Core.List.{List}
+use mathlib.Core.Path.{◌≡◌, refl, sym, ap, ◌∙◌}
+use mathlib.Core.List.{List, [], ◌∷◌, ◌++◌}
 use native.Mathlib.Omega.{arith}
 use lib.ListN.{length, set, length-set}
 use Rattle.lines.specs.Lines.{digit, decimal}
 use Rattle.lines.specs.Put.{laid}
-use Rattle.lines.proofs.Decimal.{decimal_one, decimal_more, places_one, places_more, places_some}
-use Rattle.lines.proofs.Laying.{laid_one, laid_snoc}
+use Rattle.lines.proofs.Decimal.{padded, padded_length, padded_last, padded_none, padded_all}
+use Rattle.lines.proofs.Laying.{laid_none, laid_snoc}
 
--- the digits of n behind those of `rest` are written, and place i is the next one's
+-- the digits of n behind the places from i on are written, and those ahead are the last of `rest`
 pub record Spelling (old : List ℕ) (at n : ℕ) (out : List ℕ) (i rest : ℕ) : Type 0 where
   pub kept : length out ≡ length old
-  pub inside : i < length old
-  pub place : i + 1 ≡ at + length (decimal rest)
-  pub left : laid out at (decimal rest) ≡ laid old at (decimal n)
+  pub low : at ≤ i
+  pub high : i ≤ length old
+  pub left : laid out at (padded (i - at) rest) ≡ laid old at (decimal n)
 
-pub spelling_start : (old : List ℕ) (at n : ℕ) → at + length (decimal n) ≤ length old → Spelling old at n old (at + length (decimal n) - 1) n
+pub spelling_start : (old : List ℕ) (at n : ℕ) → at + length (decimal n) ≤ length old → Spelling old at n old (at + length (decimal n)) n
 spelling_start old at n h =
-    let some = places_some n in
-    record { kept = refl; inside = omega arith; place = omega arith; left = refl }
+    let e : at + length (decimal n) - at ≡ length (decimal n) = omega arith in
+    record { kept = refl; low = omega arith; high = h; left = ap (laid old at) (rw e (padded_all n)) }
 
 module _ {old : List ℕ} {at n : ℕ} {out : List ℕ} {i rest : ℕ} (s : Spelling old at n out i rest) where
-  pub spelling_digit : 10 ≤ rest → Spelling old at n (set out i (digit (rest % 10))) (i - 1) (rest / 10)
+  pub spelling_digit : at < i → Spelling old at n (set out (i - 1) (digit (rest % 10))) (i - 1) (rest / 10)
   spelling_digit h =
-      let some = places_some (rest / 10) in
-      let e : i ≡ at + length (decimal (rest / 10)) = omega (arith, s.place, places_more rest h) in
-      let k : at + length (decimal (rest / 10)) < length out = omega (arith, s.kept, s.inside) in
+      let k : ℕ = i - 1 - at in
+      let more : i - at ≡ k + 1 = omega arith in
+      let place : at + length (padded k (rest / 10)) ≡ i - 1 = omega (arith, padded_length k (rest / 10)) in
+      let room : at + length (padded k (rest / 10)) < length out = omega (arith, s.kept, s.high) in
+      let last : padded k (rest / 10) ++ (digit (rest % 10) ∷ []) ≡ padded (i - at) rest = rw more (sym (padded_last k rest)) in
       record {
-        kept = length-set out i (digit (rest % 10)) ∙ s.kept;
-        inside = omega (arith, s.inside);
-        place = omega arith;
+        kept = length-set out (i - 1) (digit (rest % 10)) ∙ s.kept;
+        low = omega arith;
+        high = omega (arith, s.high);
         left =
-            rw e (sym (laid_snoc out at (decimal (rest / 10)) (digit (rest % 10)) k))
-            ∙ rw (decimal_more rest h) at s.left;
+            (rw place at (sym (laid_snoc out at (padded k (rest / 10)) (digit (rest % 10)) room)))
+            ∙ ap (laid out at) last
+            ∙ s.left;
       }
 
-  pub spelling_last : rest < 10 → set out i (digit rest) ≡ laid old at (decimal n)
-  spelling_last h =
-      let e : i ≡ at = omega (arith, s.place, places_one rest h) in
-      rw e (sym (laid_one out at (digit rest) (omega (arith, s.kept, s.inside)))) ∙ rw (decimal_one rest h) at s.left
+  pub spelling_done : i ≤ at → out ≡ laid old at (decimal n)
+  spelling_done h =
+      let e : i - at ≡ 0 = omega arith in
+      let none : [] ≡ padded (i - at) rest = rw e (sym (padded_none rest)) in
+      sym (laid_none out at) ∙ ap (laid out at) none ∙ s.left

@@ -5,33 +5,19 @@
 ghost use Rattle.std.specs.Prelude.{◌≡◌, [], ◌∷◌, ◌++◌, ◌+◌, ◌≤◌, length};
 ghost use Rattle.lines.specs.Lines.{decimal, numbered, line_b, line_r, line_x, line_x', line_f};
 ghost use Rattle.lines.specs.Put.{Wrote, Puts};
-ghost use Rattle.lines.specs.Laid.{only_of};
 
-// Where the next line starts, or that the line did not fit.
+// Not all of several lines fit: 14, and the place behind those ahead of the first that did not.
 #[derive(Clone, Copy)]
-pub enum Put {
-    At(usize),
-    Full,
-}
-
-// All of several lines stand, and the place behind them; or, 14, those ahead of the first that did not fit, and the place behind those.
-#[derive(Clone, Copy)]
-pub enum Laid {
-    Whole(usize),
-    Part(usize),
-}
+pub struct Cut(pub usize);
 
 // How many digits a number has.
 fn places(n: u64) -> usize
     ensures { (result ≡ length (decimal n)) × (result ≤ 20) }
 {
-    let mut k: usize = 1;
-    let mut left = n;
-    while 10 <= left {
-        left /= 10;
-        k += 1;
+    match n.checked_ilog10() {
+        Some(k) => k as usize + 1,
+        None => 1,
     }
-    k
 }
 
 // The bytes go to out at a place; the place behind them.
@@ -39,12 +25,9 @@ fn put_bytes(out: &mut [u8], at: usize, bytes: &[u8]) -> usize
     requires { at + length bytes.now ≤ length out.old }
     ensures { Wrote out.old at bytes.now result out.new }
 {
-    let mut i: usize = 0;
-    while i < bytes.len() {
-        out[at + i] = bytes[i];
-        i += 1;
-    }
-    at + i
+    let end = at + bytes.len();
+    out[at..end].copy_from_slice(bytes);
+    end
 }
 
 // A number's digits go to out at a place, the last one first; the place behind them.
@@ -53,14 +36,11 @@ fn put_decimal(out: &mut [u8], at: usize, n: u64) -> usize
     ensures { Wrote out.old at (decimal n) result out.new }
 {
     let end = at + places(n);
-    let mut i = end - 1;
     let mut rest = n;
-    while 10 <= rest {
+    for i in (at..end).rev() {
         out[i] = b'0' + (rest % 10) as u8;
         rest /= 10;
-        i -= 1;
     }
-    out[i] = b'0' + rest as u8;
     end
 }
 
@@ -78,11 +58,9 @@ fn fields_size(numbers: &[u64]) -> usize
     requires { length numbers.now ≤ 4 }
     ensures { (result ≡ length (numbered numbers.now)) × (result ≤ 84) }
 {
-    let mut size: usize = 0;
-    let mut k: usize = 0;
-    while k < numbers.len() {
-        size += 1 + places(numbers[k]);
-        k += 1;
+    let mut size = 0;
+    for n in numbers {
+        size += 1 + places(*n);
     }
     size
 }
@@ -92,86 +70,87 @@ fn put_fields(out: &mut [u8], at: usize, numbers: &[u64]) -> usize
     requires { at + length (numbered numbers.now) ≤ length out.old }
     ensures { Wrote out.old at (numbered numbers.now) result out.new }
 {
-    let mut i = at;
-    let mut k: usize = 0;
-    while k < numbers.len() {
-        i = put_field(out, i, numbers[k]);
-        k += 1;
+    let mut place = at;
+    for n in numbers {
+        place = put_field(out, place, *n);
     }
-    i
+    place
 }
 
-// A line: its head, a name and its numbers.
-fn put_line(out: &mut [u8], at: usize, head: &[u8], name: &[u8], numbers: &[u64]) -> Put
+// A line: its head, a name and its numbers. Where the next line starts; nothing where this one does not fit.
+fn put_line(out: &mut [u8], at: usize, head: &[u8], name: &[u8], numbers: &[u64]) -> Option<usize>
     requires { (at ≤ length out.old) × (length head.now ≤ 2) × (length numbers.now ≤ 4) }
     ensures { Puts out.old at (head.now ++ name.now ++ numbered numbers.now ++ (10 ∷ [])) result out.new }
 {
     let room = out.len() - at;
-    let size = head.len() + fields_size(numbers) + 1;
-    if room < size {
-        return Put::Full;
-    }
-    if room - size < name.len() {
-        return Put::Full;
+    let left = room.checked_sub(head.len() + fields_size(numbers) + 1)?;
+    if left < name.len() {
+        return None;
     }
     let a = put_bytes(out, at, head);
     let b = put_bytes(out, a, name);
     let c = put_fields(out, b, numbers);
     let d = put_bytes(out, c, b"\n");
-    Put::At(d)
+    Some(d)
 }
 
 // The line of an accepted base: its chromosome's name, its start and stop, how many records it has.
-pub fn put_b(out: &mut [u8], at: usize, name: &[u8], start: u64, stop: u64, count: u64) -> Put
+pub fn put_b(
+    out: &mut [u8],
+    at: usize,
+    name: &[u8],
+    start: u64,
+    stop: u64,
+    count: u64,
+) -> Option<usize>
     requires { at ≤ length out.old }
     ensures { Puts out.old at (line_b name.now start stop count) result out.new }
 {
-    let numbers = [start, stop, count];
-    put_line(out, at, b"B\t", name, &numbers)
+    put_line(out, at, b"B\t", name, &[start, stop, count])
 }
 
 // The line of a base's record: its stream and row, its start and stop.
-pub fn put_r(out: &mut [u8], at: usize, stream: u64, row: u64, start: u64, stop: u64) -> Put
+pub fn put_r(
+    out: &mut [u8],
+    at: usize,
+    stream: u64,
+    row: u64,
+    start: u64,
+    stop: u64,
+) -> Option<usize>
     requires { at ≤ length out.old }
     ensures { Puts out.old at (line_r stream row start stop) result out.new }
 {
-    let numbers = [stream, row, start, stop];
-    put_line(out, at, b"R", b"", &numbers)
+    put_line(out, at, b"R", b"", &[stream, row, start, stop])
 }
 
 // The line of a refusal: its number, and the base's row.
-pub fn put_x(out: &mut [u8], at: usize, number: u64, row: u64) -> Put
+pub fn put_x(out: &mut [u8], at: usize, number: u64, row: u64) -> Option<usize>
     requires { at ≤ length out.old }
     ensures { Puts out.old at (line_x number row) result out.new }
 {
-    let numbers = [number, row];
-    put_line(out, at, b"X", b"", &numbers)
+    put_line(out, at, b"X", b"", &[number, row])
 }
 
 // The line of a refusal that a stream's record gives: its number, the base's row, the record's stream and row.
-pub fn put_x_row(out: &mut [u8], at: usize, number: u64, base: u64, stream: u64, row: u64) -> Put
+pub fn put_x_row(
+    out: &mut [u8],
+    at: usize,
+    number: u64,
+    base: u64,
+    stream: u64,
+    row: u64,
+) -> Option<usize>
     requires { at ≤ length out.old }
     ensures { Puts out.old at (line_x' number base stream row) result out.new }
 {
-    let numbers = [number, base, stream, row];
-    put_line(out, at, b"X", b"", &numbers)
+    put_line(out, at, b"X", b"", &[number, base, stream, row])
 }
 
 // The line of a fault before the run: its number, the text, the rows ahead of it there.
-pub fn put_fault(out: &mut [u8], at: usize, number: u64, text: u64, ahead: u64) -> Put
+pub fn put_fault(out: &mut [u8], at: usize, number: u64, text: u64, ahead: u64) -> Option<usize>
     requires { at ≤ length out.old }
     ensures { Puts out.old at (line_f number text ahead) result out.new }
 {
-    let numbers = [number, text, ahead];
-    put_line(out, at, b"X", b"", &numbers)
-}
-
-// What became of lines, where there is only one, put at a place.
-pub fn only(put: Put, at: usize) -> Laid
-    ensures { result ≡ only_of put at }
-{
-    match put {
-        Put::At(p) => Laid::Whole(p),
-        Put::Full => Laid::Part(at),
-    }
+    put_line(out, at, b"X", b"", &[number, text, ahead])
 }

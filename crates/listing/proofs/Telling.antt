@@ -17,8 +17,8 @@ use Rattle.rules.specs.Call as rules
 use Rattle.rules.specs.Job.{lending, replies}
 use Rattle.heads.specs.View.{Cols}
 use Rattle.admit.specs.Gates.{lengths_of}
-use Rattle.lines.specs.declared.Laid.{Laid}
-use Rattle.lines.specs.declared.Laid.TheVariants.{Whole, Part}
+use Rattle.std.specs.Prelude.{Some, None, Result, Ok, Err}
+use Rattle.lines.specs.declared.Cut.{Cut}
 use Rattle.lines.specs.Laid.{Lays}
 use Rattle.lines.specs.Lines.{line_b}
 use Rattle.lines.proofs.LaidLaws.{lays_none, lays_append, lays_part}
@@ -40,7 +40,6 @@ use Rattle.inputs.specs.Read.{base_in}
 use Rattle.walk.specs.Run.{Own, Comes, Bases}
 use Rattle.listing.specs.Listing.{record_line, reply_lines, run_lines}
 use Rattle.listing.specs.Run.{lines_from, step_of}
-use Rattle.listing.specs.declared.Step.TheVariants.{On, Done}
 
 -- ---- the lines of one base
 
@@ -91,7 +90,7 @@ pub record Telling (ns : List (List ℕ)) (lengths : List ℕ) (b s : Cols) (n :
   pub answers : length l.answers ≡ room
   pub sofar : List (List ℕ)
   pub rest : sofar ++ lines_from ns lengths b s (n - i) i r l.cells ≡ whole
-  pub laid : Lays old 0 sofar (Whole at) out
+  pub laid : Lays old 0 sofar (Ok at) out
 
 pub telling_start : (ns : List (List ℕ)) (lengths : List ℕ) (b s : Cols) (n : ℕ) (r : Run) (l : Lent) (out : List ℕ) → Comes s lengths r l.cells → length l.answers ≡ room →
     Telling ns lengths b s n (lines_from ns lengths b s n 0 r l.cells) out 0 0 r l out
@@ -106,11 +105,11 @@ telling_start ns lengths b s n r l out c enough = record {
 
 module _ {ns : List (List ℕ)} {lengths : List ℕ} {b s : Cols} {n : ℕ} {whole : List (List ℕ)} {old : List ℕ} {i at : ℕ} {r : Run} {l : Lent} {out : List ℕ} (w : Telling ns lengths b s n whole old i at r l out) where
   -- no base is left
-  pub telling_end : n ≤ i → Lays old 0 whole (Whole at) out
+  pub telling_end : n ≤ i → Lays old 0 whole (Ok at) out
   unfolding replies
   telling_end over =
       let none : lines_from ns lengths b s (n - i) i r l.cells ≡ [] = ap (λ (bs : List Base). run_lines ns i bs (replies (lengths_of lengths) room (run_of s l.cells r) bs)) (build_none (base_in b) n i over) in
-      subst (λ (ls : List (List ℕ)). Lays old 0 ls (Whole at) out) (sym (append-nil w.sofar) ∙ ap (λ (ls : List (List ℕ)). w.sofar ++ ls) (sym none) ∙ w.rest) w.laid
+      subst (λ (ls : List (List ℕ)). Lays old 0 ls (Ok at) out) (sym (append-nil w.sofar) ∙ ap (λ (ls : List (List ℕ)). w.sofar ++ ls) (sym none) ∙ w.rest) w.laid
 
   -- base i is given, and its lines are written
   module _ (below : i < n) {x : Listed} {l' : Lent} {out' : List ℕ} (h : Lists s lengths r (base_in b i) i (get_or ns (get_or b.chrom i 0) []) l out at x l' out') where
@@ -159,43 +158,43 @@ module _ {ns : List (List ℕ)} {lengths : List ℕ} {b s : Cols} {n : ℕ} {who
     answer_is = h.gives.settles.answer
 
     -- the listing stops: a line doesn't fit, or the run has ended
-    pub telling_done : step_of x.answer x.lines ≡ Done → Lays old 0 whole x.lines out'
+    pub telling_done : step_of x.answer x.lines ≡ None → Lays old 0 whole x.lines out'
     telling_done e = go x.lines laid_next (ap (λ (a : Answer). step_of a x.lines) (sym answer_is) ∙ e)
       where
-        by_reply : (t : Reply) (p : ℕ) (ls : List (List ℕ)) → step_of (answer_of t) (Whole p) ≡ Done → more_of t ls ≡ []
+        by_reply : (t : Reply) (p : ℕ) (ls : List (List ℕ)) → step_of (answer_of t) (Ok p) ≡ None → more_of t ls ≡ []
         by_reply (found hs o) p ls k = let z : ◌≡◌ {A = ℕ} 0 1 = cc in absurd (omega arith)
         by_reply (refused y) p ls k = let z : ◌≡◌ {A = ℕ} 0 1 = cc in absurd (omega arith)
         by_reply (ended y) p ls k = refl
 
-        go : (v : Laid) → Lays old 0 (w.sofar ++ own) v out' → step_of (answer_of reply) v ≡ Done → Lays old 0 whole v out'
-        go (Part p) y k = subst (λ (ls : List (List ℕ)). Lays old 0 ls (Part p) out') whole_is (lays_part (more_of reply later) y)
-        go (Whole p) y k = subst (λ (ls : List (List ℕ)). Lays old 0 ls (Whole p) out') (sym (append-nil (w.sofar ++ own)) ∙ ap (λ (ls : List (List ℕ)). (w.sofar ++ own) ++ ls) (sym (by_reply reply p later k)) ∙ whole_is) y
+        go : (v : Result ℕ Cut) → Lays old 0 (w.sofar ++ own) v out' → step_of (answer_of reply) v ≡ None → Lays old 0 whole v out'
+        go (Err c) y k = subst (λ (ls : List (List ℕ)). Lays old 0 ls (Err c) out') whole_is (lays_part (more_of reply later) y)
+        go (Ok p) y k = subst (λ (ls : List (List ℕ)). Lays old 0 ls (Ok p) out') (sym (append-nil (w.sofar ++ own)) ∙ ap (λ (ls : List (List ℕ)). (w.sofar ++ own) ++ ls) (sym (by_reply reply p later k)) ∙ whole_is) y
 
     -- it goes on at the next base
-    pub telling_on : {p : ℕ} → step_of x.answer x.lines ≡ On p → length l'.answers ≡ length l.answers → Telling ns lengths b s n whole old (i + 1) p x.run l' out'
+    pub telling_on : {p : ℕ} → step_of x.answer x.lines ≡ Some p → length l'.answers ≡ length l.answers → Telling ns lengths b s n whole old (i + 1) p x.run l' out'
     telling_on {p} e kept = record {
       inside = omega arith;
       comes = comes_next s lengths r (base_in b i) l (record { run = x.run; answer = x.answer }) l' h.gives w.comes;
       answers = kept ∙ w.answers;
       sofar = w.sofar ++ own;
       rest = ap (λ (ls : List (List ℕ)). (w.sofar ++ own) ++ ls) (sym (goes_on reply x.lines later step)) ∙ whole_is;
-      laid = subst (λ (v : Laid). Lays old 0 (w.sofar ++ own) v out') (all_stand (answer_of reply) x.lines step) laid_next;
+      laid = subst (λ (v : Result ℕ Cut). Lays old 0 (w.sofar ++ own) v out') (all_stand (answer_of reply) x.lines step) laid_next;
     }
       where
-        step : step_of (answer_of reply) x.lines ≡ On p
+        step : step_of (answer_of reply) x.lines ≡ Some p
         step = ap (λ (a : Answer). step_of a x.lines) (sym answer_is) ∙ e
 
-        goes_on : (t : Reply) (v : Laid) (ls : List (List ℕ)) → step_of (answer_of t) v ≡ On p → more_of t ls ≡ ls
+        goes_on : (t : Reply) (v : Result ℕ Cut) (ls : List (List ℕ)) → step_of (answer_of t) v ≡ Some p → more_of t ls ≡ ls
         goes_on (found hs o) v ls k = refl
         goes_on (refused y) v ls k = refl
-        goes_on (ended y) (Whole q) ls k = let z : ◌≡◌ {A = ℕ} 0 1 = cc in absurd (omega arith)
-        goes_on (ended y) (Part q) ls k = let z : ◌≡◌ {A = ℕ} 0 1 = cc in absurd (omega arith)
+        goes_on (ended y) (Ok q) ls k = let z : ◌≡◌ {A = ℕ} 0 1 = cc in absurd (omega arith)
+        goes_on (ended y) (Err c) ls k = let z : ◌≡◌ {A = ℕ} 0 1 = cc in absurd (omega arith)
 
-        all_stand : (a : Answer) (v : Laid) → step_of a v ≡ On p → v ≡ Whole p
-        all_stand (answer.Found m o) (Whole q) k = cc
-        all_stand (answer.Refused y) (Whole q) k = cc
-        all_stand (answer.Ended y) (Whole q) k = let z : ◌≡◌ {A = ℕ} 0 1 = cc in absurd (omega arith)
-        all_stand a (Part q) k = let z : ◌≡◌ {A = ℕ} 0 1 = cc in absurd (omega arith)
+        all_stand : (a : Answer) (v : Result ℕ Cut) → step_of a v ≡ Some p → v ≡ Ok p
+        all_stand (answer.Found m o) (Ok q) k = cc
+        all_stand (answer.Refused y) (Ok q) k = cc
+        all_stand (answer.Ended y) (Ok q) k = let z : ◌≡◌ {A = ℕ} 0 1 = cc in absurd (omega arith)
+        all_stand a (Err c) k = let z : ◌≡◌ {A = ℕ} 0 1 = cc in absurd (omega arith)
 
 -- all that is lent keeps its length
 pub record Lengths (l : Lent) (out : List ℕ) (l' : Lent) (out' : List ℕ) : Type 0 where

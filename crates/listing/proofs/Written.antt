@@ -9,18 +9,17 @@ use native.Mathlib.Nat.{sub-zero, zero-add}
 use lib.Dec.{leb}
 use lib.ListN.{length, drop, length-append}
 use borrow.Author.Tests.{le-leb, leb-true}
-use Rattle.lines.specs.declared.Laid.{Laid}
-use Rattle.lines.specs.declared.Laid.TheVariants.{Whole, Part}
-use Rattle.lines.specs.declared.Put.{Put}
+use Rattle.std.specs.Prelude.{Option as Maybe, Result, Ok, ok_or}
+use Rattle.lines.specs.declared.Cut.{Cut}
 use Rattle.lines.specs.Put.{Puts, laid}
 use Rattle.lines.specs.Lines.{line_f}
-use Rattle.lines.specs.Laid.{joined, fitting, laid_of, only_of, Lays}
+use Rattle.lines.specs.Laid.{joined, fitting, cut, laid_of, Lays}
 use Rattle.lines.proofs.LaidLaws.{lays_only}
 use Rattle.heads.specs.View.{Cols}
 use Rattle.inputs.specs.Texts.{Texts, Fault, fault, fault_of, names_of, bases_of, job_of}
-use Rattle.inputs.specs.Read.{fault_by, Reads}
+use Rattle.inputs.specs.Read.{told, Reads}
 use Rattle.inputs.specs.declared.Read.{Read}
-use Rattle.inputs.specs.declared.Verdict.TheVariants as verdict
+use Rattle.inputs.specs.declared.InputError.{InputError}
 use Rattle.rules.specs.Job.{answers}
 use Rattle.listing.specs.Listing.{run_lines, unless_fault, listing}
 use Rattle.listing.specs.Run.{told_of}
@@ -29,14 +28,14 @@ use Rattle.listing.specs.declared.Listing.{Listing}
 
 -- ---- the verdict
 
-module _ {t : Texts} {r : Read} {from to len : List ℕ} {b s : Cols} (h : Reads t r from to len b s) where
+module _ {t : Texts} {e : InputError} {from to len : List ℕ} {b s : Cols} (h : Reads t (Err e) from to len b s) where
   -- "A fault before the run gives one line"
-  pub reads_fault : {number text ahead : ℕ} {put : Put} {x : Laid} {old new : List ℕ} → r.verdict ≡ verdict.Fault number text ahead → Puts old 0 (line_f number text ahead) put new → x ≡ only_of put 0 → Lays old 0 (listing t) x new
+  pub reads_fault : {number text ahead : ℕ} {put : Maybe ℕ} {x : Result ℕ Cut} {old new : List ℕ} → number ≡ (told e).number → text ≡ (told e).text → ahead ≡ (told e).ahead → Puts old 0 (line_f number text ahead) put new → x ≡ ok_or put (record { 0 = 0 }) → Lays old 0 (listing t) x new
   unfolding listing
-  reads_fault {number} {text} {ahead} {put} {x} {old} {new} e p q =
-      let wrong : fault_of t ≡ some (fault number text ahead) = sym h.fault ∙ ap fault_by e in
+  reads_fault {number} {text} {ahead} {put} {x} {old} {new} n k m p q =
+      let wrong : fault_of t ≡ some (fault number text ahead) = sym h.fault ∙ rw (n, k, m) in
       let lines : line_f number text ahead ∷ [] ≡ listing t = sym (ap (λ (o : Option Fault). unless_fault o (run_lines (names_of t) 0 (bases_of t) (answers (job_of t) (bases_of t)))) wrong) in
-      subst (λ (ls : List (List ℕ)). Lays old 0 ls x new) lines (subst (λ (y : Laid). Lays old 0 (line_f number text ahead ∷ []) y new) (sym q) (lays_only put (omega arith) p))
+      subst (λ (ls : List (List ℕ)). Lays old 0 ls x new) lines (subst (λ (y : Result ℕ Cut). Lays old 0 (line_f number text ahead ∷ []) y new) (sym q) (lays_only put (omega arith) p))
 
 -- ---- the answer
 
@@ -48,27 +47,27 @@ all_fit space (l ∷ ls) h =
     rw (le-leb (length l) space (omega (arith, n, h)), all_fit (space - length l) ls (omega (arith, n, h)))
 
 -- whether they fit, and where they end, from the buffer's start on
-laid_from_start : (old : List ℕ) (ls : List (List ℕ)) → laid_of old 0 ls ≡ cond (leb (length (joined ls)) (length old)) (Whole (length (joined ls))) (Part (length (joined (fitting (length old) ls))))
+laid_from_start : (old : List ℕ) (ls : List (List ℕ)) → laid_of old 0 ls ≡ cond (leb (length (joined ls)) (length old)) (Ok (length (joined ls))) (cut (length (joined (fitting (length old) ls))))
 laid_from_start old ls = rw (zero-add (length (joined ls)), sub-zero (length old), zero-add (length (joined (fitting (length old) ls))))
 
 written_from_start : (old bytes : List ℕ) → laid old 0 bytes ≡ bytes ++ drop (length bytes) old
 unfolding laid
 written_from_start old bytes = ap (λ (n : ℕ). bytes ++ drop n old) (zero-add (length bytes))
 
-pub told_written : {t : Texts} {old new : List ℕ} {l : Laid} {x : Listing} → Lays old 0 (listing t) l new → x ≡ told_of l → Writes t old x new
+pub told_written : {t : Texts} {old new : List ℕ} {l : Result ℕ Cut} {x : Listing} → Lays old 0 (listing t) l new → x ≡ told_of l → Writes t old x new
 told_written {t} {old} {new} {l} {x} h e =
-    let is : x ≡ told_of (cond (leb (length (joined (listing t))) (length old)) (Whole (length (joined (listing t)))) (Part (length (held_of (length old) t)))) = e ∙ ap told_of (h.answer ∙ laid_from_start old (listing t)) in
+    let is : x ≡ told_of (cond (leb (length (joined (listing t))) (length old)) (Ok (length (joined (listing t)))) (cut (length (held_of (length old) t)))) = e ∙ ap told_of (h.answer ∙ laid_from_start old (listing t)) in
     record {
       number = ap (λ (y : Listing). y.number) is ∙ number (leb (length (joined (listing t))) (length old));
       size = ap (λ (y : Listing). y.length) is ∙ size (leb (length (joined (listing t))) (length old)) refl;
       written = h.written ∙ ap (λ (n : ℕ). laid old 0 (joined (fitting n (listing t)))) (sub-zero (length old)) ∙ written_from_start old (held_of (length old) t);
     }
   where
-    number : (u : Bool) → (told_of (cond u (Whole (length (joined (listing t)))) (Part (length (held_of (length old) t))))).number ≡ cond u 0 14
+    number : (u : Bool) → (told_of (cond u (Ok (length (joined (listing t)))) (cut (length (held_of (length old) t))))).number ≡ cond u 0 14
     number true = refl
     number false = refl
 
-    size : (u : Bool) → leb (length (joined (listing t))) (length old) ≡ u → (told_of (cond u (Whole (length (joined (listing t)))) (Part (length (held_of (length old) t))))).length ≡ length (held_of (length old) t)
+    size : (u : Bool) → leb (length (joined (listing t))) (length old) ≡ u → (told_of (cond u (Ok (length (joined (listing t)))) (cut (length (held_of (length old) t))))).length ≡ length (held_of (length old) t)
     size true k = ap (λ (ls : List (List ℕ)). length (joined ls)) (sym (all_fit (length old) (listing t) (leb-true (length (joined (listing t))) (length old) k)))
     size false k = refl
 

@@ -2,21 +2,22 @@
 #![tactic(auto)]
 
 ghost use Rattle.std.specs.Prelude.{◌≡◌, length};
-ghost use Rattle.fields.specs.Names.{names};
-ghost use Rattle.heads.specs.View.{cols};
+ghost use Rattle.fields.specs.Names.{listed};
+ghost use Rattle.heads.specs.View.{cols_of};
 ghost use Rattle.lines.specs.Laid.{Lays};
 ghost use Rattle.inputs.specs.Texts.{rows_most, room};
 ghost use Rattle.inputs.specs.Parted.{texts_of};
-ghost use Rattle.inputs.specs.Read.{Rooms};
-ghost use Rattle.walk.specs.Run.{Comes, Bases, Fine};
+ghost use Rattle.walk.specs.Run.{Comes, Bases};
+ghost use Rattle.walk.specs.Memory.{FineIn};
 ghost use Rattle.listing.specs.Listing.{listing};
 ghost use Rattle.listing.specs.Run.{lines_from, step_of, told_of};
 ghost use Rattle.listing.specs.Call.{Writes};
 
-use inputs::{Read, Verdict};
-use lines::{Laid, Put};
+use inputs::Read;
+use lines::Cut;
 use rules::Answer;
 use runs::Run;
+use walk::{Memory, Tables};
 
 // 0, or 14 where the listing is longer than its buffer; and how many bytes of it stand there.
 #[repr(C)]
@@ -26,72 +27,45 @@ pub struct Listing {
     pub length: usize,
 }
 
-// Whether the listing goes on behind a base's lines, and from which place.
-#[derive(Clone, Copy)]
-enum Step {
-    On(usize),
-    Done,
-}
-
-// The listing goes on where all lines stand and the run has not ended.
-fn step_after(answer: Answer, lines: Laid) -> Step
+// The place from which the listing goes on behind a base's lines: where all of them stand and the run has not ended.
+fn step_after(answer: Answer, lines: Result<usize, Cut>) -> Option<usize>
     ensures { result ≡ step_of answer lines }
 {
-    let Laid::Whole(p) = lines else {
-        return Step::Done;
-    };
     match answer {
-        Answer::Found(n, o) => Step::On(p),
-        Answer::Refused(x) => Step::On(p),
-        Answer::Ended(e) => Step::Done,
+        Answer::Found(_, _) | Answer::Refused(_) => lines.ok(),
+        Answer::Ended(_) => None,
     }
 }
 
-// The lines of n bases, one behind the other, until the run ends or a line doesn't fit.
+// The lines of n bases, one behind the other, until the run ends or a line doesn't fit. The program's twin writes each base's lines out and takes
+// the buffer anew; what is written out no contract can speak of.
 fn list_bases(
     run: Run,
     n: usize,
-    list: &[u8],
-    from: &[usize],
-    to: &[usize],
-    lengths: &[u64],
-    bchrom: &[u64],
-    bstart: &[u64],
-    bstop: &[u64],
-    chrom: &[u64],
-    start: &[u64],
-    stop: &[u64],
+    tables: Tables,
     queue: &mut [[u64; 4]],
     answers: &mut [[u64; 2]],
     out: &mut [u8],
-) -> Laid
-    requires { Bases list.now from.now to.now (cols bchrom.now bstart.now bstop.now) n
-        × Comes (cols chrom.now start.now stop.now) lengths.now run queue.old
+) -> Result<usize, Cut>
+    requires { Bases tables.names.text.now tables.names.from.now tables.names.to.now (cols_of tables.bases) n
+        × Comes (cols_of tables.rows) tables.lengths.now run queue.old
         × (length answers.old ≡ room) }
     ensures { Lays out.old 0
-        (lines_from (names list.now from.now to.now) lengths.now (cols bchrom.now bstart.now bstop.now)
-        (cols chrom.now start.now stop.now) n 0 run queue.old)
+        (lines_from (listed tables.entry.names) tables.entry.lengths.now (cols_of tables.entry.bases)
+        (cols_of tables.entry.rows) n 0 run queue.old)
         result out.new }
 {
-    let mut u = run;
-    let mut at: usize = 0;
-    let mut i: usize = 0;
-    while i < n {
-        let x = walk::list_row(
-            u, i, list, from, to, lengths, bchrom, bstart, bstop, chrom, start, stop, queue,
-            answers, out, at,
-        );
-        u = x.run;
-        i += 1;
-        let answer = x.answer;
-        let lines = x.lines;
-        let step = step_after(answer, lines);
-        let Step::On(p) = step else {
-            return lines;
+    let mut run = run;
+    let mut at = 0;
+    for i in 0..n {
+        let base = walk::list_row(run, i, tables, queue, answers, out, at);
+        let Some(next) = step_after(base.answer, base.lines) else {
+            return base.lines;
         };
-        at = p;
+        run = base.run;
+        at = next;
     }
-    Laid::Whole(at)
+    Ok(at)
 }
 
 // The listing of texts that were read, with nothing wrong.
@@ -99,92 +73,37 @@ fn list_run(
     read: Read,
     bytes: &[u8],
     ends: &[usize],
-    from: &[usize],
-    to: &[usize],
-    len: &[u64],
-    bchrom: &[u64],
-    bstart: &[u64],
-    bstop: &[u64],
-    chrom: &[u64],
-    start: &[u64],
-    stop: &[u64],
+    memory: &Memory,
     out: &mut [u8],
-) -> Laid
-    requires { Fine (texts_of bytes.now ends.now) read from.now to.now len.now (cols bchrom.now bstart.now bstop.now) (cols chrom.now start.now stop.now) }
+) -> Result<usize, Cut>
+    requires { FineIn (texts_of bytes.now ends.now) read memory.now }
     ensures { Lays out.old 0 (listing (texts_of bytes.now ends.now)) result out.new }
 {
-    let a = ends[0];
-    let list = &bytes[..a];
-    let n = read.names;
-    let count = read.bases;
-    let run = walk::begin(read, list, from, to, chrom, start, stop);
+    let tables = memory.tables(read, bytes, ends);
+    let run = walk::begin(read, tables);
     let mut queue = [[0; 4]; 1024];
     let mut answers = [[0; 2]; 1024];
-    list_bases(
-        run,
-        count,
-        list,
-        &from[..n],
-        &to[..n],
-        &len[..n],
-        bchrom,
-        bstart,
-        bstop,
-        chrom,
-        start,
-        stop,
-        &mut queue,
-        &mut answers,
-        out,
-    )
+    list_bases(run, read.bases, tables, &mut queue, &mut answers, out)
 }
 
-// The listing of texts, by way of lent columns: a fault before the run gives one line, else the bases are listed.
-fn list_columns(
-    bytes: &[u8],
-    ends: &[usize],
-    from: &mut [usize],
-    to: &mut [usize],
-    len: &mut [u64],
-    bchrom: &mut [u64],
-    bstart: &mut [u64],
-    bstop: &mut [u64],
-    chrom: &mut [u64],
-    start: &mut [u64],
-    stop: &mut [u64],
-    out: &mut [u8],
-) -> Laid
-    requires { Rooms from.old to.old len.old (cols bchrom.old bstart.old bstop.old) (cols chrom.old start.old stop.old) }
+// The listing of texts: a fault before the run gives one line, else the bases are listed.
+fn list_texts(bytes: &[u8], ends: &[usize], out: &mut [u8]) -> Result<usize, Cut>
     ensures { Lays out.old 0 (listing (texts_of bytes.now ends.now)) result out.new }
 {
-    let read = inputs::read_texts(
-        bytes, ends, from, to, len, bchrom, bstart, bstop, chrom, start, stop,
-    );
-    let verdict = read.verdict;
-    match verdict {
-        Verdict::Fine => list_run(
-            read, bytes, ends, from, to, len, bchrom, bstart, bstop, chrom, start, stop, out,
-        ),
-        Verdict::Fault(number, text, ahead) => {
-            let put = lines::put_fault(out, 0, number, text, ahead);
-            lines::only(put, 0)
-        }
+    let mut memory = Memory::new();
+    match memory.read(bytes, ends) {
+        Ok(read) => list_run(read, bytes, ends, &memory, out),
+        Err(e) => lines::put_fault(out, 0, e.number(), e.text(), e.ahead()).ok_or(Cut(0)),
     }
 }
 
 // What became of the lines, in numbers.
-fn told(l: Laid) -> Listing
-    ensures { result ≡ told_of l }
+fn told(lines: Result<usize, Cut>) -> Listing
+    ensures { result ≡ told_of lines }
 {
-    match l {
-        Laid::Whole(p) => Listing {
-            number: 0,
-            length: p,
-        },
-        Laid::Part(p) => Listing {
-            number: 14,
-            length: p,
-        },
+    match lines {
+        Ok(length) => Listing { number: 0, length },
+        Err(Cut(length)) => Listing { number: 14, length },
     }
 }
 
@@ -194,28 +113,5 @@ fn told(l: Laid) -> Listing
 pub extern "C" fn cedarlash_list(bytes: &[u8], ends: &[usize], out: &mut [u8]) -> Listing
     ensures { Writes (texts_of bytes.now ends.now) out.old result out.new }
 {
-    let mut from = [0; 1024];
-    let mut to = [0; 1024];
-    let mut len = [0; 1024];
-    let mut bchrom = [0; 1024];
-    let mut bstart = [0; 1024];
-    let mut bstop = [0; 1024];
-    let mut chrom = [0; 8192];
-    let mut start = [0; 8192];
-    let mut stop = [0; 8192];
-    let l = list_columns(
-        bytes,
-        ends,
-        &mut from,
-        &mut to,
-        &mut len,
-        &mut bchrom,
-        &mut bstart,
-        &mut bstop,
-        &mut chrom,
-        &mut start,
-        &mut stop,
-        out,
-    );
-    told(l)
+    told(list_texts(bytes, ends, out))
 }

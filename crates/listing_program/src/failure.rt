@@ -7,14 +7,10 @@ use std::io::{Cursor, Error, Print, Write};
 fn words(text: &[u8]) -> usize
     ensures { result ≤ length text.now }
 {
-    let mut n = text.len();
-    while 1 < n {
-        n -= 1;
-        if text[n] == b'(' {
-            return n - 1;
-        }
+    match text.iter().rposition(|b| *b == b'(') {
+        Some(n) if 0 < n => n - 1,
+        _ => text.len(),
     }
-    text.len()
 }
 
 // Writes a line to standard error: what failed, as the caller names it, and the reason. Where it can't be written, nothing else can be said.

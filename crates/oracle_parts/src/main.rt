@@ -3,135 +3,67 @@
 // A line: A B base_start base_stop n, n records, F, then for each fragment: present bstart bstop k, k pieces; `#` starts a comment line.
 #![tactic(auto)]
 
-ghost use Rattle.std.specs.Prelude.{◌≤◌, length, IfOk};
-
 use parts::{Choice, Span};
-use std::io::Read;
 use std::{fs, io};
-use tests_shared::{Num, at, is_end, line_end, matches, more, nothing, number};
+use tests_shared::{Reader, at};
 
-// n records from a place on, into two columns; the place behind them.
-fn records(text: &[u8], from: usize, n: usize, starts: &mut [u64], stops: &mut [u64]) -> Num {
-    let mut at = from;
-    let mut i: usize = 0;
-    while i < n {
-        let s = number(text, at);
-        let e = number(text, s.next);
-        if !e.good {
-            return nothing();
-        }
-        if starts.len() <= i {
-            return nothing();
-        }
-        if stops.len() <= i {
-            return nothing();
-        }
-        starts[i] = s.value;
-        stops[i] = e.value;
-        at = e.next;
-        i += 1;
+// The columns of fragments: of each its base part and where its pieces begin and end in the pieces' columns, and these.
+#[derive(Clone, Copy, Default)]
+struct Fragments {
+    present: [u64; 32],
+    bstart: [u64; 32],
+    bstop: [u64; 32],
+    first: [u64; 32],
+    end: [u64; 32],
+    pstart: [u64; 32],
+    pstop: [u64; 32],
+}
+
+impl Fragments {
+    // Whether the base part of fragment k is the one recorded.
+    fn matches_part(&self, k: usize, reader: &mut Reader) -> Option<()> {
+        reader.matches(at(&self.present, k))?;
+        reader.matches(at(&self.bstart, k))?;
+        reader.matches(at(&self.bstop, k))
     }
-    Num {
-        value: 0,
-        next: at,
-        good: true,
+
+    // Whether the pieces of fragment k, their count ahead, are those recorded.
+    fn matches_pieces(&self, k: usize, reader: &mut Reader) -> Option<()> {
+        let first: u64 = at(&self.first, k);
+        let end: u64 = at(&self.end, k);
+        reader.matches(end.checked_sub(first)?)?;
+        for i in first as usize..end as usize {
+            reader.matches(at(&self.pstart, i))?;
+            reader.matches(at(&self.pstop, i))?;
+        }
+        Some(())
+    }
+
+    // Whether the first n fragments are those recorded, up to the line's end.
+    fn matches_all(&self, n: usize, reader: &mut Reader) -> Option<()> {
+        reader.matches(n as u64)?;
+        for k in 0..n {
+            self.matches_part(k, reader)?;
+            self.matches_pieces(k, reader)?;
+        }
+        if reader.is_end() { Some(()) } else { None }
     }
 }
 
-// Whether the pieces of a range stand at a place of the text, and the place behind them.
-fn same_pieces(
-    text: &[u8],
-    from: usize,
-    first: usize,
-    end: usize,
-    pstart: &[u64],
-    pstop: &[u64],
-) -> Num {
-    let mut place = from;
-    let mut i = first;
-    while i < end {
-        let s = matches(text, place, at(pstart, i));
-        if !s.good {
-            return nothing();
-        }
-        let e = matches(text, s.next, at(pstop, i));
-        if !e.good {
-            return nothing();
-        }
-        place = e.next;
-        i += 1;
-    }
-    Num {
-        value: 0,
-        next: place,
-        good: true,
-    }
-}
-
-// Whether a base part stands at a place of the text, and the place behind it.
-fn same_part(text: &[u8], from: usize, present: u64, start: u64, stop: u64) -> Num {
-    let p = matches(text, from, present);
-    if !p.good {
-        return nothing();
-    }
-    let s = matches(text, p.next, start);
-    if !s.good {
-        return nothing();
-    }
-    matches(text, s.next, stop)
-}
-
-// Whether a fragment's pieces, their count ahead, stand at a place of the text, and the place behind them.
-fn same_range(
-    text: &[u8],
-    from: usize,
-    first: u64,
-    end: u64,
-    pstart: &[u64],
-    pstop: &[u64],
-) -> Num {
-    if end < first {
-        return nothing();
-    }
-    let k = matches(text, from, end - first);
-    if !k.good {
-        return nothing();
-    }
-    same_pieces(text, k.next, first as usize, end as usize, pstart, pstop)
-}
-
-// Whether n fragments are those that stand from a place to the line's end.
-fn same(
-    text: &[u8],
-    from: usize,
+// n records, into two columns; a start that can't be read is 0.
+fn read_records(
     n: usize,
-    present: &[u64],
-    bstart: &[u64],
-    bstop: &[u64],
-    first: &[u64],
-    end: &[u64],
-    pstart: &[u64],
-    pstop: &[u64],
-) -> bool {
-    let f = matches(text, from, n as u64);
-    if !f.good {
-        return false;
+    starts: &mut [u64],
+    stops: &mut [u64],
+    reader: &mut Reader,
+) -> Option<()> {
+    for i in 0..n {
+        let start = reader.number().unwrap_or_default();
+        let stop = reader.number()?;
+        *starts.get_mut(i)? = start;
+        *stops.get_mut(i)? = stop;
     }
-    let mut place = f.next;
-    let mut k: usize = 0;
-    while k < n {
-        let b = same_part(text, place, at(present, k), at(bstart, k), at(bstop, k));
-        if !b.good {
-            return false;
-        }
-        let r = same_range(text, b.next, at(first, k), at(end, k), pstart, pstop);
-        if !r.good {
-            return false;
-        }
-        place = r.next;
-        k += 1;
-    }
-    is_end(text, place)
+    Some(())
 }
 
 // The choice of a number from 0.
@@ -145,183 +77,109 @@ fn choice(i: u64) -> Choice {
     }
 }
 
-// Whether the fragments of a base and its records are those that stand at a place.
-fn replay(
-    text: &[u8],
-    from: usize,
+// Whether the fragments of a base and its records are those recorded.
+fn replay_records(
     a: Choice,
     b: Choice,
     base: Span,
     starts: &[u64],
     stops: &[u64],
-) -> bool {
-    let mut present = [0u64; 32];
-    let mut bstart = [0u64; 32];
-    let mut bstop = [0u64; 32];
-    let mut first = [0u64; 32];
-    let mut end = [0u64; 32];
-    let mut pstart = [0u64; 32];
-    let mut pstop = [0u64; 32];
-    let r = parts::fragments(
+    reader: &mut Reader,
+) -> Option<()> {
+    let mut f = Fragments::default();
+    let answer = parts::fragments(
         a,
         b,
         base,
         starts,
         stops,
-        &mut present,
-        &mut bstart,
-        &mut bstop,
-        &mut first,
-        &mut end,
-        &mut pstart,
-        &mut pstop,
+        &mut f.present,
+        &mut f.bstart,
+        &mut f.bstop,
+        &mut f.first,
+        &mut f.end,
+        &mut f.pstart,
+        &mut f.pstop,
     );
-    match r {
-        Ok(written) => same(
-            text,
-            from,
-            written.fragments,
-            &present,
-            &bstart,
-            &bstop,
-            &first,
-            &end,
-            &pstart,
-            &pstop,
-        ),
-        Err(_) => false,
+    match answer {
+        Ok(written) => f.matches_all(written.fragments, reader),
+        Err(_) => None,
     }
 }
 
-// Whether the job that stands at a place has the fragments recorded with it.
-fn is_same_job(text: &[u8], from: usize) -> bool {
-    let a = number(text, from);
-    let b = number(text, a.next);
-    let s = number(text, b.next);
-    let e = number(text, s.next);
-    let n = number(text, e.next);
-    let count = n.value as usize;
-    if !n.good {
-        return false;
+// Whether the job that stands at a place has the fragments recorded with it. What can't be read ahead of the count is 0.
+fn replay(mut reader: Reader) -> Option<()> {
+    let a = reader.number().unwrap_or_default();
+    let b = reader.number().unwrap_or_default();
+    let start = reader.number().unwrap_or_default();
+    let stop = reader.number().unwrap_or_default();
+    let n = reader.number()? as usize;
+    if 16 < n {
+        return None;
     }
-    if 16 < count {
-        return false;
-    }
-    let mut starts = [0u64; 16];
-    let mut stops = [0u64; 16];
-    let r = records(text, n.next, count, &mut starts, &mut stops);
-    if !r.good {
-        return false;
-    }
-    let base = Span {
-        start: s.value,
-        stop: e.value,
-    };
-    replay(
-        text,
-        r.next,
-        choice(a.value),
-        choice(b.value),
+    let mut starts = [0; 16];
+    let mut stops = [0; 16];
+    read_records(n, &mut starts, &mut stops, &mut reader)?;
+    let base = Span { start, stop };
+    replay_records(
+        choice(a),
+        choice(b),
         base,
-        &starts[..count],
-        &stops[..count],
+        &starts[..n],
+        &stops[..n],
+        &mut reader,
     )
 }
 
 // How the replay stands: jobs, differences, and the line of the first that differs.
-#[derive(Clone, Copy)]
+#[derive(Clone, Copy, Default)]
 struct Tally {
     jobs: u64,
     differ: u64,
     first: u64,
 }
 
-// The tally with one job more.
-fn counted(t: Tally, line: u64, same: bool) -> Tally {
-    let jobs = more(t.jobs);
-    if same {
-        return Tally {
-            jobs,
-            differ: t.differ,
-            first: t.first,
-        };
-    }
-    if t.differ == 0 {
-        return Tally {
-            jobs,
-            differ: 1,
-            first: line,
-        };
-    }
-    Tally {
-        jobs,
-        differ: more(t.differ),
-        first: t.first,
-    }
-}
-
-// The tally of a line: a comment changes nothing.
-fn tallied(t: Tally, line: u64, text: &[u8], from: usize) -> Tally {
-    if from < text.len() {
-        if text[from] == b'#' {
-            return t;
+impl Tally {
+    // One job more.
+    fn count(&mut self, line: u64, same: bool) {
+        self.jobs = self.jobs.saturating_add(1);
+        if same {
+            return;
         }
+        if self.differ == 0 {
+            self.first = line;
+        }
+        self.differ = self.differ.saturating_add(1);
     }
-    counted(t, line, is_same_job(text, from))
 }
 
-// The tally of a list.
+// The tally of a list: a comment changes nothing.
 fn replay_all(text: &[u8]) -> Tally {
-    let mut t = Tally {
-        jobs: 0,
-        differ: 0,
-        first: 0,
-    };
-    let mut line: u64 = 0;
-    let mut place: usize = 0;
-    while place < text.len() {
-        line = more(line);
-        t = tallied(t, line, text, place);
-        place = line_end(text, place);
-    }
-    t
-}
-
-// A word, a number and a line's end.
-fn say(rt: &impl Print, word: &[u8], n: u64) -> io::Result<()> {
-    rt.write_all(word)?;
-    rt.println(n)
-}
-
-// Reads until the buffer is full or the input ends; how many bytes were put at its start.
-fn read_full(input: &mut impl Read, buf: &mut [u8]) -> io::Result<usize>
-    ensures { IfOk result (λ n. n ≤ length buf.new) }
-{
-    let mut done: usize = 0;
-    while done < buf.len() {
-        let n = input.read(&mut buf[done..])?;
-        if n == 0 {
-            return Ok(done);
+    let mut tally = Tally::default();
+    let mut at: usize = 0;
+    for (i, line) in text.split_inclusive(|b| *b == b'\n').enumerate() {
+        if line.first() != Some(&b'#') {
+            let same = replay(Reader { text, at }).is_some();
+            tally.count(i as u64 + 1, same);
         }
-        done += n;
+        at = at.saturating_add(line.len());
     }
-    Ok(done)
+    tally
 }
 
 fn main(rt: HostRuntime) -> io::Result<()> {
     let path = "parts.txt";
-    let mut file = match fs::open(&rt, path) {
+    let file = match fs::open(&rt, path) {
         Ok(file) => file,
         Err(e) => return eprintln!(rt; "{path}: {e}"),
     };
-    let mut buffer = [0u8; 65536];
-    let n = read_full(&mut file, &mut buffer)?;
-    let t = replay_all(&buffer[..n]);
-    say(&rt, b"bytes ", n as u64)?;
-    say(&rt, b"jobs ", t.jobs)?;
-    say(&rt, b"differences ", t.differ)?;
-    if 0 < t.differ {
-        say(&rt, b"first at line ", t.first)?;
+    let text = tests_shared::read_text(rt.alloc(), file)?;
+    let tally = replay_all(&text);
+    println!(rt; "bytes {}", text.len())?;
+    println!(rt; "jobs {}", tally.jobs)?;
+    println!(rt; "differences {}", tally.differ)?;
+    if 0 < tally.differ {
+        println!(rt; "first at line {}", tally.first)?;
     }
     Ok(())
 }

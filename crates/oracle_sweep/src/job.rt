@@ -1,337 +1,184 @@
 // One job of the list: its streams and bases are read, a run begins, and each base's records are compared.
-use crate::{order, sum};
+use crate::order;
+use fields::NameList;
+use heads::Columns;
 use rules::{Answer, Base, Chrom, Settings};
-use runs::{Begins, Run};
-use tests_shared::{
-    Num, at, front, is_end, name_ends, name_starts, name_text, nothing, number, places,
-};
+use runs::Run;
+use tests_shared::{Reader, at, front, name_ends, name_starts, name_text};
 
 // What a job comes to: how many bases and records it has, and whether all are those of the list.
-#[derive(Clone, Copy)]
+#[derive(Clone, Copy, Default)]
 pub struct Score {
     pub bases: u64,
     pub records: u64,
     pub same: bool,
 }
 
-// The streams that were read: where each one's rows begin and end in the columns, and the place behind them in the text.
+// Rows that were read, as columns of chromosomes, starts and stops, and how many there are.
+#[derive(Drop)]
+struct Rows {
+    chrom: [u64; 64],
+    start: [u64; 64],
+    stop: [u64; 64],
+    count: usize,
+}
+
+impl Rows {
+    fn new() -> Rows {
+        Rows {
+            chrom: [0; 64],
+            start: [0; 64],
+            stop: [0; 64],
+            count: 0,
+        }
+    }
+
+    // n rows more; a chromosome or a start that can't be read is 0.
+    fn read(&mut self, n: u64, reader: &mut Reader) -> Option<()> {
+        for _ in 0..n {
+            let chrom = reader.number().unwrap_or_default();
+            let start = reader.number().unwrap_or_default();
+            let stop = reader.number()?;
+            let k = self.count;
+            if 64 <= k {
+                return None;
+            }
+            self.chrom[k] = chrom;
+            self.start[k] = start;
+            self.stop[k] = stop;
+            self.count = k + 1;
+        }
+        Some(())
+    }
+
+    // The rows as lent columns.
+    fn columns(&self) -> Columns<'_> {
+        Columns {
+            chrom: front(&self.chrom, self.count),
+            start: front(&self.start, self.count),
+            stop: front(&self.stop, self.count),
+        }
+    }
+}
+
+// Where each stream's rows begin and end in the columns.
 #[derive(Clone, Copy)]
-struct Streams {
+struct Ranges {
     from: [usize; 8],
     to: [usize; 8],
-    rows: usize,
-    next: usize,
-    good: bool,
 }
 
-// The run after a base, the place behind its records in the text, how many there are, and whether they are those of the list.
-#[derive(Clone, Copy)]
-struct Step {
-    run: Run,
-    next: usize,
-    records: u64,
-    same: bool,
-}
-
-// n rows from a place of the text on, into three columns from slot `first` on; the place behind them, and the slot behind the last.
-fn read_rows(
-    text: &[u8],
-    from: usize,
-    n: u64,
-    first: usize,
-    chrom: &mut [u64; 64],
-    start: &mut [u64; 64],
-    stop: &mut [u64; 64],
-) -> Num {
-    let mut place = from;
-    let mut k = first;
-    let mut i: u64 = 0;
-    while i < n {
-        let c = number(text, place);
-        let s = number(text, c.next);
-        let e = number(text, s.next);
-        if !e.good {
-            return nothing();
-        }
-        if 64 <= k {
-            return nothing();
-        }
-        chrom[k] = c.value;
-        start[k] = s.value;
-        stop[k] = e.value;
-        place = e.next;
-        k += 1;
-        i += 1;
-    }
-    Num {
-        value: k as u64,
-        next: place,
-        good: true,
-    }
-}
-
-// The streams with the rows of stream k, which end at a slot.
-fn with_rows(s: Streams, k: usize, rows: Num) -> Streams {
-    let mut t = s;
-    let end = rows.value as usize;
-    if k < 8 {
-        t.from[k] = s.rows;
-        t.to[k] = end;
-    }
-    t.rows = end;
-    t.next = rows.next;
-    t.good = s.good & rows.good;
-    t
-}
-
-// n streams from a place of the text on.
-fn read_streams(
-    text: &[u8],
-    from: usize,
-    n: usize,
-    chrom: &mut [u64; 64],
-    start: &mut [u64; 64],
-    stop: &mut [u64; 64],
-) -> Streams {
-    let mut s = Streams {
+// n streams; how many rows one has is 0 where it can't be read.
+fn read_streams(n: usize, rows: &mut Rows, reader: &mut Reader) -> Option<Ranges> {
+    let mut ranges = Ranges {
         from: [0; 8],
         to: [0; 8],
-        rows: 0,
-        next: from,
-        good: n <= 8,
     };
-    let mut k: usize = 0;
-    while k < n {
-        if 8 <= k {
-            return s;
-        }
-        let m = number(text, s.next);
-        let r = read_rows(text, m.next, m.value, s.rows, chrom, start, stop);
-        s = with_rows(s, k, r);
-        k += 1;
+    if 8 < n {
+        return None;
     }
-    s
+    for k in 0..n {
+        let count = reader.number().unwrap_or_default();
+        ranges.from[k] = rows.count;
+        rows.read(count, reader)?;
+        ranges.to[k] = rows.count;
+    }
+    Some(ranges)
 }
 
-// A base that was not answered.
-fn failed(run: Run) -> Step {
-    Step {
-        run: run,
-        next: 0,
-        records: 0,
-        same: false,
-    }
-}
-
-// A base is given to a run, and its records are compared with those that stand at a place.
+// A base is given to a run, and its records are compared with those recorded: the run behind it, and how many there are.
 fn give(
     run: Run,
     b: Base,
-    text: &[u8],
-    from: usize,
-    chrom: &[u64],
-    start: &[u64],
-    stop: &[u64],
+    rows: Columns,
     lengths: &[u64],
-    queue: &mut [[u64; 4]; 1024],
-) -> Step {
-    let mut answers = [[0u64; 2]; 1024];
-    let firsts = run.from;
-    let g = sweep::give(run, b, chrom, start, stop, lengths, queue, &mut answers);
-    let answer = g.answer;
-    let after = g.run;
-    match answer {
-        Answer::Found(n, _) => {
-            order::sort(n, &mut answers, &firsts, start);
-            let r = order::same_rows(text, from, n, &answers);
-            Step {
-                run: after,
-                next: r.next,
-                records: n as u64,
-                same: r.good,
-            }
-        }
-        Answer::Refused(_) => failed(after),
-        Answer::Ended(_) => failed(after),
-    }
+    queue: &mut [[u64; 4]],
+    reader: &mut Reader,
+) -> Option<(Run, u64)> {
+    let mut answers = [[0; 2]; 1024];
+    let given = sweep::give(run, b, rows, lengths, queue, &mut answers);
+    let Answer::Found(n, _) = given.answer else {
+        return None;
+    };
+    order::sort(n, &mut answers, &run.from, rows.start);
+    order::matches_rows(n, &answers, reader)?;
+    Some((given.run, n as u64))
 }
 
-// Number i of the bases.
-fn base_at(i: usize, chrom: &[u64], start: &[u64], stop: &[u64]) -> Base {
-    Base {
-        chrom: Chrom(at(chrom, i)),
-        start: at(start, i),
-        stop: at(stop, i),
-    }
-}
-
-fn wrong() -> Score {
-    Score {
-        bases: 0,
-        records: 0,
-        same: false,
-    }
-}
-
-// The bases are given to a run one after the other, up to the first that differs; their records stand from a place of the text on.
+// The bases are given to a run one after the other, up to the first that differs.
 fn replay_bases(
     run: Run,
-    text: &[u8],
-    from: usize,
-    bchrom: &[u64],
-    bstart: &[u64],
-    bstop: &[u64],
-    chrom: &[u64],
-    start: &[u64],
-    stop: &[u64],
+    bases: Columns,
+    rows: Columns,
     lengths: &[u64],
-) -> Score {
-    let mut queue = [[0u64; 4]; 1024];
-    let mut u = run;
-    let mut place = from;
+    reader: &mut Reader,
+) -> Option<Score> {
+    let mut queue = [[0; 4]; 1024];
+    let mut run = run;
     let mut records: u64 = 0;
-    let mut i: usize = 0;
-    while i < bchrom.len() {
-        let b = base_at(i, bchrom, bstart, bstop);
-        i += 1;
-        let s = give(u, b, text, place, chrom, start, stop, lengths, &mut queue);
-        if !s.same {
-            return wrong();
-        }
-        u = s.run;
-        place = s.next;
-        records = sum(records, s.records);
+    let n = bases.chrom.len();
+    for i in 0..n {
+        let base = Base {
+            chrom: Chrom(bases.chrom[i]),
+            start: at(bases.start, i),
+            stop: at(bases.stop, i),
+        };
+        let (after, found) = give(run, base, rows, lengths, &mut queue, reader)?;
+        run = after;
+        records = records.saturating_add(found);
     }
-    Score {
-        bases: i as u64,
-        records: records,
-        same: is_end(text, place),
-    }
+    Some(Score {
+        bases: n as u64,
+        records,
+        same: reader.is_end(),
+    })
 }
 
-// A run of so many chromosomes begins, and the bases are given to it.
+// A run of so many streams and chromosomes begins, and the bases are given to it.
 fn replay_run(
-    s: Streams,
     streams: usize,
     chroms: usize,
-    text: &[u8],
-    from: usize,
-    bchrom: &[u64],
-    bstart: &[u64],
-    bstop: &[u64],
-    chrom: &[u64],
-    start: &[u64],
-    stop: &[u64],
-) -> Score {
-    let names = name_text();
-    let name_from = name_starts();
-    let name_to = name_ends();
-    let rows_from = s.from;
-    let rows_to = s.to;
-    let lengths = [18446744073709551615u64; 256];
+    ranges: Ranges,
+    bases: Columns,
+    rows: Columns,
+    reader: &mut Reader,
+) -> Option<Score> {
+    let text = name_text();
+    let from = name_starts();
+    let to = name_ends();
+    let lengths = [u64::MAX; 256];
     let fixed = Settings {
-        streams: streams,
-        chroms: chroms,
-        room: 1024,
-    };
-    let t = Run::start(
-        fixed,
-        rows_from,
-        rows_to,
-        &names,
-        places(&name_from, chroms),
-        places(&name_to, chroms),
-        chrom,
-        start,
-        stop,
-    );
-    let begins = t.begins;
-    let run = t.run;
-    match begins {
-        Begins::Begun => replay_bases(
-            run,
-            text,
-            from,
-            bchrom,
-            bstart,
-            bstop,
-            chrom,
-            start,
-            stop,
-            front(&lengths, chroms),
-        ),
-        Begins::Refused(_) => wrong(),
-    }
-}
-
-// The same, with so many of the bases and rows that were read.
-fn replay_read(
-    s: Streams,
-    streams: usize,
-    chroms: usize,
-    bases: usize,
-    text: &[u8],
-    from: usize,
-    bchrom: &[u64; 64],
-    bstart: &[u64; 64],
-    bstop: &[u64; 64],
-    chrom: &[u64; 64],
-    start: &[u64; 64],
-    stop: &[u64; 64],
-) -> Score {
-    let rows = s.rows;
-    replay_run(
-        s,
         streams,
         chroms,
-        text,
-        from,
-        front(bchrom, bases),
-        front(bstart, bases),
-        front(bstop, bases),
-        front(chrom, rows),
-        front(start, rows),
-        front(stop, rows),
-    )
+        room: 1024,
+    };
+    let names = NameList {
+        text: &text,
+        from: front(&from, chroms),
+        to: front(&to, chroms),
+    };
+    match Run::start(fixed, ranges.from, ranges.to, names, rows) {
+        Ok(run) => replay_bases(run, bases, rows, front(&lengths, chroms), reader),
+        Err(_) => None,
+    }
 }
 
-// What the job that stands at a place comes to.
-pub fn replay(text: &[u8], from: usize) -> Score {
-    let mut chrom = [0u64; 64];
-    let mut start = [0u64; 64];
-    let mut stop = [0u64; 64];
-    let mut bchrom = [0u64; 64];
-    let mut bstart = [0u64; 64];
-    let mut bstop = [0u64; 64];
-    let c = number(text, from);
-    let k = number(text, c.next);
-    let streams = k.value as usize;
-    let s = read_streams(text, k.next, streams, &mut chrom, &mut start, &mut stop);
-    let m = number(text, s.next);
-    let r = read_rows(
-        text,
-        m.next,
-        m.value,
-        0,
-        &mut bchrom,
-        &mut bstart,
-        &mut bstop,
-    );
-    if !(s.good & (m.good & r.good)) {
-        return wrong();
-    }
-    replay_read(
-        s,
+// What the job that stands at a place comes to; nothing where it can't be read, or a base differs. The number of chromosomes, or of streams, is 0
+// where it can't be read.
+pub fn replay(mut reader: Reader) -> Option<Score> {
+    let mut rows = Rows::new();
+    let mut bases = Rows::new();
+    let chroms = reader.number().unwrap_or_default() as usize;
+    let streams = reader.number().unwrap_or_default() as usize;
+    let ranges = read_streams(streams, &mut rows, &mut reader)?;
+    let count = reader.number()?;
+    bases.read(count, &mut reader)?;
+    replay_run(
         streams,
-        c.value as usize,
-        m.value as usize,
-        text,
-        r.next,
-        &bchrom,
-        &bstart,
-        &bstop,
-        &chrom,
-        &start,
-        &stop,
+        chroms,
+        ranges,
+        bases.columns(),
+        rows.columns(),
+        &mut reader,
     )
 }

@@ -7,13 +7,14 @@ use lib.ListN.{length, get_or, drop, length-append, length-map}
 use Rattle.basics.specs.Build.{build}
 use Rattle.basics.proofs.EdgeLaws.{build_shift}
 use Rattle.rules.specs.declared.Base.{Base}
-use Rattle.rules.specs.declared.Offer.{Offer}
+use Rattle.rules.specs.Offered.{Offer}
 use Rattle.rules.specs.declared.Answer.{Answer}
 use Rattle.rules.specs.Rows.{Record}
 use Rattle.rules.specs.Call.{Reply, found, refused, ended, answer_of, column}
 use Rattle.heads.specs.View.{Cols}
 use Rattle.queue.specs.Deeds.{answer_row}
-use Rattle.lines.specs.declared.Laid.{Laid}
+use Rattle.std.specs.Prelude.{Result}
+use Rattle.lines.specs.declared.Cut.{Cut}
 use Rattle.lines.specs.Lines.{line_b}
 use Rattle.lines.specs.Laid.{Lays}
 use Rattle.lines.proofs.LaidLaws.{lays_alike}
@@ -62,7 +63,7 @@ module _ {s : Cols} {lengths : List ℕ} {r : Run} {b : Base} {l l' : Lent} {g :
   pub reply_backs : (from : List ℕ) → Backs (source s.start s.stop from l'.answers) g.answer
   reply_backs from = backs_by s.start s.stop from l.answers (given_of s lengths r b l).reply w.settles.answer w.settles.answers
 
-  pub reply_lists : {x : Laid} (name : List ℕ) (row : ℕ) (out : List ℕ) (at : ℕ) (out' : List ℕ)
+  pub reply_lists : {x : Result ℕ Cut} (name : List ℕ) (row : ℕ) (out : List ℕ) (at : ℕ) (out' : List ℕ)
       → Lays out at (answer_lines (source s.start s.stop r.from l'.answers) name row b g.answer) x out'
       → Lists s lengths r b row name l out at (record { run = g.run; answer = g.answer; lines = x }) l' out'
   reply_lists name row out at out' v = record {

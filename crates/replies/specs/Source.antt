@@ -2,12 +2,13 @@
 use Rattle.std.specs.Prelude.{◌≡◌, List, [], ◌∷◌, ℕ, ◌≤◌, length, get_or}
 use Rattle.basics.specs.Build.{build}
 use Rattle.rules.specs.declared.Base.{Base}
-use Rattle.rules.specs.declared.Offer.{Offer}
+use Rattle.rules.specs.Offered.{Offer}
 use Rattle.rules.specs.declared.Answer.{Answer}
 use Rattle.rules.specs.declared.Answer.TheVariants.{Found, Refused, Ended}
 use Rattle.rules.specs.Numbers.{refusal_number, end_number, end_values}
 use Rattle.lines.specs.Lines.{line_b, line_x, line_e}
 use Rattle.replies.specs.Lines.{row_line}
+use Rattle.replies.specs.declared.Rows.{Rows}
 
 -- the lent columns, where each stream's rows begin in them, and the answer rows
 pub record Source : Type 0 where
@@ -18,6 +19,10 @@ pub record Source : Type 0 where
 
 abbrev pub source : List ℕ → List ℕ → List ℕ → List (List ℕ) → Source
 source start stop from answers = record { start = start; stop = stop; from = from; answers = answers }
+
+-- the same, of what the functions here are given
+abbrev pub source_of : Rows → Source
+source_of r = source r.columns.start.now r.columns.stop.now r.from.now r.answers.now
 
 -- the line of answer row k
 abbrev pub line_at : Source → ℕ → List ℕ

@@ -3,16 +3,17 @@
 
 ghost use Rattle.std.specs.Prelude.{◌≡◌, [], ◌∷◌, ◌+◌, ◌≤◌, length, get_or};
 ghost use Rattle.rules.specs.Numbers.{end_number, end_values};
-ghost use Rattle.heads.specs.View.{cols};
+ghost use Rattle.heads.specs.View.{cols_of};
 ghost use Rattle.lines.specs.Lines.{line_e};
 ghost use Rattle.lines.specs.Put.{Puts};
 ghost use Rattle.lines.specs.Laid.{Lays};
 ghost use Rattle.pulls.specs.Pulls.{lent};
 ghost use Rattle.replies.specs.Lines.{row_line};
 ghost use Rattle.replies.specs.List.{Lists};
-ghost use Rattle.replies.specs.Source.{source, row_lines, found_lines, answer_lines, Holds, Backs};
+ghost use Rattle.replies.specs.Source.{source_of, row_lines, found_lines, answer_lines, Holds, Backs};
 
-use lines::{Laid, Put};
+use heads::Columns;
+use lines::Cut;
 use rules::{Answer, Base, End};
 use runs::Run;
 
@@ -21,33 +22,40 @@ use runs::Run;
 pub struct Listed {
     pub run: Run,
     pub answer: Answer,
-    pub lines: Laid,
+    pub lines: Result<usize, Cut>,
+}
+
+// A base as it stands in a listing: its row, and its chromosome's name.
+#[derive(Clone, Copy)]
+pub struct Entry<'a> {
+    pub base: Base,
+    pub row: u64,
+    pub name: &'a [u8],
+}
+
+// Answer rows, the columns that they name rows of, and where each stream's rows begin there.
+#[derive(Clone, Copy)]
+struct Rows<'a> {
+    columns: Columns<'a>,
+    from: &'a [usize],
+    answers: &'a [[u64; 2]],
 }
 
 // The place that a list of places names at a number, as where a stream's rows begin; 0 past its end.
-pub fn place_at(col: &[usize], k: u64) -> usize
-    ensures { result ≡ get_or col.now k 0 }
+pub fn place_at(column: &[usize], k: u64) -> usize
+    ensures { result ≡ get_or column.now k 0 }
 {
-    let i = k as usize;
-    if col.len() <= i {
-        return 0;
-    }
-    col[i]
+    column.get(k as usize).copied().unwrap_or(0)
 }
 
 // The value so many rows behind a place of a column; 0 past its end.
-fn value_at(col: &[u64], first: usize, row: u64) -> u64
-    ensures { result ≡ get_or col.now (first + row) 0 }
+fn value_at(column: &[u64], first: usize, row: u64) -> u64
+    ensures { result ≡ get_or column.now (first + row) 0 }
 {
-    let n = col.len();
-    let k = row as usize;
-    if n <= first {
-        return 0;
-    }
-    if n - first <= k {
-        return 0;
-    }
-    col[first + k]
+    column
+        .get(first.saturating_add(row as usize))
+        .copied()
+        .unwrap_or(0)
 }
 
 // The line of a record.
@@ -56,80 +64,52 @@ fn put_record(
     at: usize,
     stream: u64,
     row: u64,
-    start: &[u64],
-    stop: &[u64],
+    columns: Columns,
     from: &[usize],
-) -> Put
+) -> Option<usize>
     requires { at ≤ length out.old }
-    ensures { Puts out.old at (row_line start.now stop.now from.now stream row) result out.new }
+    ensures { Puts out.old at (row_line columns.entry.start.now columns.entry.stop.now from.now stream row) result out.new }
 {
     let first = place_at(from, stream);
-    let begins = value_at(start, first, row);
-    let ends = value_at(stop, first, row);
-    lines::put_r(out, at, stream, row, begins, ends)
+    let start = value_at(columns.start, first, row);
+    let stop = value_at(columns.stop, first, row);
+    lines::put_r(out, at, stream, row, start, stop)
 }
 
 // The lines of the first n answer rows.
-fn put_records(
-    out: &mut [u8],
-    at: usize,
-    n: usize,
-    start: &[u64],
-    stop: &[u64],
-    from: &[usize],
-    answers: &[[u64; 2]],
-) -> Laid
-    requires { (at ≤ length out.old) × Holds (source start.now stop.now from.now answers.now) n }
-    ensures { Lays out.old at
-        (row_lines (source start.now stop.now from.now answers.now) n) result out.new }
+fn put_records(out: &mut [u8], at: usize, n: usize, rows: Rows) -> Result<usize, Cut>
+    requires { (at ≤ length out.old) × Holds (source_of rows) n }
+    ensures { Lays out.old at (row_lines (source_of rows.entry) n) result out.new }
 {
     let mut place = at;
-    let mut i: usize = 0;
-    while i < n {
-        let put = put_record(out, place, answers[i][0], answers[i][1], start, stop, from);
-        let Put::At(next) = put else {
-            return Laid::Part(place);
-        };
-        place = next;
-        i += 1;
+    for i in 0..n {
+        let [stream, row] = rows.answers[i];
+        let put = put_record(out, place, stream, row, rows.columns, rows.from);
+        place = put.ok_or(Cut(place))?;
     }
-    Laid::Whole(place)
+    Ok(place)
 }
 
 // The lines of a base that was answered: its own, and its records'.
-fn put_found(
-    out: &mut [u8],
-    at: usize,
-    n: usize,
-    base: Base,
-    name: &[u8],
-    start: &[u64],
-    stop: &[u64],
-    from: &[usize],
-    answers: &[[u64; 2]],
-) -> Laid
-    requires { (at ≤ length out.old) × Holds (source start.now stop.now from.now answers.now) n }
+fn put_found(out: &mut [u8], at: usize, n: usize, entry: Entry, rows: Rows) -> Result<usize, Cut>
+    requires { (at ≤ length out.old) × Holds (source_of rows) n }
     ensures { Lays out.old at
-        (found_lines (source start.now stop.now from.now answers.now) name.now base n) result out.new }
+        (found_lines (source_of rows.entry) entry.entry.name.now entry.entry.base n) result out.new }
 {
-    let put = lines::put_b(out, at, name, base.start, base.stop, n as u64);
-    match put {
-        Put::At(next) => put_records(out, next, n, start, stop, from, answers),
-        Put::Full => Laid::Part(at),
-    }
+    let base = entry.base;
+    let put = lines::put_b(out, at, entry.name, base.start, base.stop, n as u64);
+    put_records(out, put.ok_or(Cut(at))?, n, rows)
 }
 
 // The line of an end: its number, the base's row, and for 7 and 8 the record's stream and row.
-fn put_end(out: &mut [u8], at: usize, e: End, row: u64) -> Put
+fn put_end(out: &mut [u8], at: usize, e: End, row: u64) -> Option<usize>
     requires { at ≤ length out.old }
     ensures { Puts out.old at (line_e (end_number e) row (end_values e)) result out.new }
 {
-    let number = measures::end_number(e);
+    let number = e.number();
     match e {
-        End::Faulty(s, k) => lines::put_x_row(out, at, number, row, s.0, k),
-        End::Unsorted(s, k) => lines::put_x_row(out, at, number, row, s.0, k),
-        End::NoRoom => lines::put_x(out, at, number, row),
-        End::NoRows => lines::put_x(out, at, number, row),
+        End::Faulty(s, k) | End::Unsorted(s, k) => lines::put_x_row(out, at, number, row, s.0, k),
+        End::NoRoom | End::NoRows => lines::put_x(out, at, number, row),
     }
 }
 
@@ -138,66 +118,50 @@ fn put_answer(
     out: &mut [u8],
     at: usize,
     answer: Answer,
-    base: Base,
-    row: u64,
-    name: &[u8],
-    start: &[u64],
-    stop: &[u64],
-    from: &[usize],
-    answers: &[[u64; 2]],
-) -> Laid
-    requires { Backs (source start.now stop.now from.now answers.now) answer }
+    entry: Entry,
+    rows: Rows,
+) -> Result<usize, Cut>
+    requires { Backs (source_of rows) answer }
     ensures { Lays out.old at
-        (answer_lines (source start.now stop.now from.now answers.now) name.now row base answer) result out.new }
+        (answer_lines (source_of rows.entry) entry.entry.name.now entry.entry.row entry.entry.base answer) result out.new }
 {
     if out.len() < at {
-        return Laid::Part(at);
+        return Err(Cut(at));
     }
     match answer {
-        Answer::Found(n, o) => { put_found(out, at, n, base, name, start, stop, from, answers) }
-        Answer::Refused(x) => {
-            let put = lines::put_x(out, at, measures::refusal_number(x), row);
-            lines::only(put, at)
-        }
-        Answer::Ended(e) => {
-            let put = put_end(out, at, e, row);
-            lines::only(put, at)
-        }
+        Answer::Found(n, _) => put_found(out, at, n, entry, rows),
+        Answer::Refused(x) => { lines::put_x(out, at, x.number(), entry.row).ok_or(Cut(at)) }
+        Answer::Ended(e) => put_end(out, at, e, entry.row).ok_or(Cut(at)),
     }
 }
 
-// Gives a base to the run and writes its lines at a place of a lent buffer. The base has a row, and its chromosome a name; the other memory is
-// lent as to `sweep::give`.
+// Gives a base to the run and writes its lines at a place of a lent buffer. The other memory is lent as to `sweep::give`.
 pub fn list_base(
     run: Run,
-    base: Base,
-    row: u64,
-    name: &[u8],
-    chrom: &[u64],
-    start: &[u64],
-    stop: &[u64],
+    entry: Entry,
+    columns: Columns,
     lengths: &[u64],
     queue: &mut [[u64; 4]],
     answers: &mut [[u64; 2]],
     out: &mut [u8],
     at: usize,
 ) -> Listed
-    ensures { Lists (cols chrom.now start.now stop.now) lengths.now run base row name.now
+    ensures { Lists (cols_of columns.entry) lengths.now run entry.entry.base entry.entry.row entry.entry.name.now
         (lent queue.old answers.old)
         out.old at result
         (lent queue.new answers.new)
         out.new }
 {
     let from = run.from;
-    let given = sweep::give(run, base, chrom, start, stop, lengths, queue, answers);
-    let after = given.run;
-    let answer = given.answer;
-    let lines = put_answer(
-        out, at, answer, base, row, name, start, stop, &from, answers,
-    );
+    let given = sweep::give(run, entry.base, columns, lengths, queue, answers);
+    let rows = Rows {
+        columns,
+        from: &from,
+        answers,
+    };
     Listed {
-        run: after,
-        answer: answer,
-        lines: lines,
+        run: given.run,
+        answer: given.answer,
+        lines: put_answer(out, at, given.answer, entry, rows),
     }
 }

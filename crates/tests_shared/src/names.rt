@@ -3,12 +3,7 @@
 // The text of the names.
 pub fn name_text() -> [u8; 300] {
     let mut text = [b'x'; 300];
-    text[0] = b'o';
-    text[1] = b'n';
-    text[2] = b'e';
-    text[3] = b't';
-    text[4] = b'w';
-    text[5] = b'o';
+    text[..6].copy_from_slice(b"onetwo");
     text
 }
 
@@ -22,10 +17,8 @@ pub fn name_starts() -> [usize; 257] {
 
 pub fn name_ends() -> [usize; 257] {
     let mut to = [3usize; 257];
-    let mut k: usize = 1;
-    while k < 257 {
+    for k in 1..257 {
         to[k] = k + 5;
-        k += 1;
     }
     to
 }

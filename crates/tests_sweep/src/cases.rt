@@ -1,24 +1,36 @@
 // What a case has laid and lent, and what each command does to it.
-ghost use Rattle.std.specs.Prelude.{◌≤◌};
-
-use crate::{Line, QUEUES, SLOTS, given, tamper};
-use rules::{Base, Chrom, Settings};
+use crate::{Command, QUEUES, SLOTS, given, tamper};
+use heads::Columns;
+use rules::{Base, Settings};
 use runs::{Mark, Run};
 use std::io;
-use std::io::Print;
+use tests_shared::front;
 
 // Where the memory of the second run begins in the queue's slots.
 const SECOND: usize = 65537;
 
-// The streams' ranges in the columns, the rows that are laid and how many were laid before the last line, the number of chromosomes, and where
-// one name stands in the text.
+// The streams' rows, as columns.
+#[derive(Drop)]
+pub struct Rows {
+    pub chrom: [u64; SLOTS],
+    pub start: [u64; SLOTS],
+    pub stop: [u64; SLOTS],
+}
+
+// What is lent in part: the rows, and the slots of two queues.
+#[derive(Drop)]
+pub struct Memory {
+    pub rows: Rows,
+    pub queue: [[u64; 4]; QUEUES],
+}
+
+// The streams' ranges in the columns, how many rows are laid, the number of chromosomes, and where one name stands in the text.
 #[derive(Clone, Copy)]
 pub struct Plan {
     pub streams: usize,
     pub from: [usize; 8],
     pub to: [usize; 8],
     pub rows: usize,
-    pub before: usize,
     pub chroms: usize,
     pub odd: usize,
     pub odd_from: usize,
@@ -42,72 +54,66 @@ pub struct Bench {
     pub memory: usize,
 }
 
-// Less than a slice can hold, so that one more fits.
-fn small(x: u64) -> usize
-    ensures { result ≤ 65537 }
-{
-    if x <= 65537 {
-        return x as usize;
+impl Rows {
+    // As much of each column as is lent.
+    pub fn lent(&self, lens: [usize; 8]) -> Columns<'_> {
+        Columns {
+            chrom: front(&self.chrom, lens[0]),
+            start: front(&self.start, lens[1]),
+            stop: front(&self.stop, lens[2]),
+        }
     }
-    65537
-}
 
-// How many rows a line lays: one where it does not say.
-fn row_count(n: u64) -> usize
-    ensures { result ≤ 65537 }
-{
-    if n == 0 {
-        return 1;
-    }
-    small(n)
-}
-
-// No run.
-fn no_run() -> Run {
-    let fixed = Settings {
-        streams: 0,
-        chroms: 0,
-        room: 0,
-    };
-    let mark = Mark {
-        kind: 0,
-        first: 0,
-        second: 0,
-        third: 0,
-    };
-    Run {
-        chrom: [0; 8],
-        start: [0; 8],
-        stop: [0; 8],
-        row: [0; 8],
-        ended: [1; 8],
-        next: [0; 8],
-        from: [0; 8],
-        to: [0; 8],
-        settings: fixed,
-        head: 0,
-        len: 0,
-        place: 0,
-        mark: mark,
+    // The slots from one place up to another are a row, where there are any.
+    fn fill(&mut self, from: usize, to: usize, row: Base) {
+        if from <= to && to <= SLOTS {
+            self.chrom[from..to].fill(row.chrom.0);
+            self.start[from..to].fill(row.start);
+            self.stop[from..to].fill(row.stop);
+        }
     }
 }
 
-fn no_side() -> Side {
-    Side {
-        run: no_run(),
-        lens: [0; 8],
+impl Side {
+    // No run, and nothing lent.
+    fn new() -> Side {
+        let settings = Settings {
+            streams: 0,
+            chroms: 0,
+            room: 0,
+        };
+        let run = Run {
+            chrom: [0; 8],
+            start: [0; 8],
+            stop: [0; 8],
+            row: [0; 8],
+            ended: [1; 8],
+            next: [0; 8],
+            from: [0; 8],
+            to: [0; 8],
+            settings,
+            head: 0,
+            len: 0,
+            place: 0,
+            mark: Mark {
+                kind: 0,
+                first: 0,
+                second: 0,
+                third: 0,
+            },
+        };
+        Side { run, lens: [0; 8] }
     }
 }
 
 impl Plan {
     // Two chromosomes, no stream, all names where they are due.
-    fn fresh() -> Plan {
+    fn new() -> Plan {
         Plan {
             streams: 0,
             from: [0; 8],
             to: [0; 8],
             rows: 0,
-            before: 0,
             chroms: 2,
             odd: 257,
             odd_from: 0,
@@ -116,274 +122,124 @@ impl Plan {
     }
 
     // One more stream.
-    fn with_stream(self) -> Plan {
-        let mut p = self;
-        let k = p.streams;
-        if k < 8 {
-            p.from[k] = p.rows;
-            p.to[k] = p.rows;
-        }
+    fn add_stream(&mut self) {
+        let k = self.streams;
+        self.set_range(k, self.rows, self.rows);
         if k < 100 {
-            p.streams = k + 1;
+            self.streams = k + 1;
         }
-        p
     }
 
-    // So many rows more of the last stream.
-    fn with_rows(self, n: usize) -> Plan
-        requires { n ≤ 65537 }
-    {
-        let mut p = self;
-        let k = p.streams;
-        let at = p.rows;
-        p.before = at;
-        if SLOTS - n < at {
-            return p;
+    // So many rows more of the last stream, where there are slots for them.
+    fn add_rows(&mut self, n: usize) {
+        let end = self.rows.saturating_add(n);
+        if SLOTS < end {
+            return;
         }
-        p.rows = at + n;
-        if 8 < k {
-            return p;
+        self.rows = end;
+        let k = self.streams;
+        if 0 < k && k <= 8 {
+            self.to[k - 1] = end;
         }
-        if 0 < k {
-            p.to[k - 1] = at + n;
-        }
-        p
     }
 
-    // A stream with another range.
-    fn with_range(self, k: usize, from: usize, to: usize) -> Plan {
-        let mut p = self;
+    // The rows of a stream stand elsewhere.
+    fn set_range(&mut self, k: usize, from: usize, to: usize) {
         if k < 8 {
-            p.from[k] = from;
-            p.to[k] = to;
-        }
-        p
-    }
-
-    // A name that stands elsewhere.
-    fn with_name(self, k: usize, from: usize, to: usize) -> Plan {
-        let mut p = self;
-        p.odd = k;
-        p.odd_from = from;
-        p.odd_to = to;
-        p
-    }
-
-    // Another number of chromosomes.
-    fn with_chroms(self, n: usize) -> Plan {
-        let mut p = self;
-        p.chroms = n;
-        p
-    }
-
-    // The plan after a line.
-    fn after(self, l: Line) -> Plan {
-        let a = small(l.a);
-        let b = l.b as usize;
-        let c = l.c as usize;
-        let letter = l.letter;
-        match letter {
-            b'=' => Plan::fresh(),
-            b'c' => self.with_chroms(a),
-            b'n' => self.with_name(a, b, c),
-            b's' => self.with_stream(),
-            b'r' => self.with_rows(row_count(l.d)),
-            b't' => self.with_range(a, b, c),
-            _ => self,
+            self.from[k] = from;
+            self.to[k] = to;
         }
     }
-}
 
-// As many slots as a room asks, and one answer row more.
-fn lens_for(p: Plan, room: usize) -> [usize; 8]
-    requires { room ≤ 65537 }
-{
-    let n = p.rows;
-    let k = p.chroms;
-    [n, n, n, k, room, room + 1, k, k]
-}
-
-// One slice of another length.
-fn with_len(lens: [usize; 8], k: usize, n: usize) -> [usize; 8] {
-    let mut ls = lens;
-    if k < 8 {
-        ls[k] = n;
+    // A name stands elsewhere.
+    fn set_name(&mut self, k: usize, from: usize, to: usize) {
+        self.odd = k;
+        self.odd_from = from;
+        self.odd_to = to;
     }
-    ls
-}
 
-// What is lent after a line.
-fn lens_after(lens: [usize; 8], p: Plan, l: Line) -> [usize; 8] {
-    let a = small(l.a);
-    let b = small(l.b);
-    let letter = l.letter;
-    match letter {
-        b'l' | b'g' => lens_for(p, a),
-        b'w' => with_len(lens, a, b),
-        _ => lens,
+    // As many slots as a room asks, and one answer row more.
+    fn lens_for(&self, room: usize) -> [usize; 8] {
+        let n = self.rows;
+        let k = self.chroms;
+        [n, n, n, k, room, room.saturating_add(1), k, k]
     }
 }
 
-// A slot is written, where there is one.
-fn write(s: &mut [u64], at: usize, v: u64) {
-    if at < s.len() {
-        s[at] = v;
+// A slot of the queues is written, where there is one.
+fn set_slot(queue: &mut [[u64; 4]], i: usize, record: [u64; 4]) {
+    if i < queue.len() {
+        queue[i] = record;
     }
-}
-
-// The slots from one place up to another are written, where there are any.
-fn fill(s: &mut [u64; SLOTS], from: usize, to: usize, v: u64) {
-    let mut i = from;
-    while i < to {
-        write(s, i, v);
-        i += 1;
-    }
-}
-
-// The rows that a line lays are written to the columns.
-pub fn put_rows(
-    l: Line,
-    b: Bench,
-    chrom: &mut [u64; SLOTS],
-    start: &mut [u64; SLOTS],
-    stop: &mut [u64; SLOTS],
-) {
-    let p = b.plan;
-    let from = p.before;
-    let to = p.rows;
-    if l.letter != b'r' {
-        return;
-    }
-    fill(chrom, from, to, l.a);
-    fill(start, from, to, l.b);
-    fill(stop, from, to, l.c);
-}
-
-// A slot of the queue is written.
-pub fn put_slot(l: Line, b: Bench, queue: &mut [[u64; 4]; QUEUES]) {
-    let memory = b.memory;
-    if l.letter != b'q' {
-        return;
-    }
-    if SECOND < memory {
-        return;
-    }
-    let at = memory + small(l.a);
-    let x = [l.b, l.c, l.d, l.e];
-    if at < QUEUES {
-        queue[at] = x;
-    }
-}
-
-// Whether a line lets a run begin.
-fn is_start(letter: u8) -> bool {
-    if letter == b'g' {
-        return true;
-    }
-    letter == b'h'
 }
 
 impl Bench {
-    pub fn fresh() -> Bench {
+    // Nothing is laid, and no run has begun.
+    pub fn new() -> Bench {
         Bench {
-            plan: Plan::fresh(),
-            here: no_side(),
-            there: no_side(),
+            plan: Plan::new(),
+            here: Side::new(),
+            there: Side::new(),
             memory: 0,
         }
     }
 
     // The other run and its memory.
-    fn turned(self) -> Bench {
-        let plan = self.plan;
+    fn turn(&mut self) {
         let here = self.here;
-        let there = self.there;
-        let mut memory = SECOND;
-        if self.memory == SECOND {
-            memory = 0;
-        }
-        Bench {
-            plan: plan,
-            here: there,
-            there: here,
-            memory: memory,
-        }
+        self.here = self.there;
+        self.there = here;
+        self.memory = if self.memory == SECOND { 0 } else { SECOND };
     }
 
-    // What a line of a case and of its two runs leaves.
-    fn set_for(self, l: Line) -> Bench {
-        let letter = l.letter;
-        match letter {
-            b'=' => Bench::fresh(),
-            b'o' => self.turned(),
-            _ => self,
+    // Rows more of the last stream, all alike.
+    fn lay_rows(&mut self, row: Base, n: usize, rows: &mut Rows) {
+        let from = self.plan.rows;
+        self.plan.add_rows(n);
+        rows.fill(from, self.plan.rows, row);
+    }
+
+    // A slice of another length is lent.
+    fn set_length(&mut self, k: usize, n: usize) {
+        if k < 8 {
+            self.here.lens[k] = n;
         }
     }
 
-    // The bench with another run in use.
-    fn with_run(self, run: Run) -> Bench {
-        let mut b = self;
-        let side = b.here;
-        let lens = side.lens;
-        let here = Side {
-            run: run,
-            lens: lens,
-        };
-        b.here = here;
-        b
-    }
-
-    // The bench after a line, but for the columns and for what is given to a run.
-    pub fn after(self, l: Line) -> Bench {
-        let b = self.set_for(l);
-        let before = b.plan;
-        let side = b.here;
-        let there = b.there;
-        let plan = before.after(l);
-        let lent = side.lens;
-        let lens = lens_after(lent, plan, l);
-        let old = side.run;
-        let run = tamper::after(old, l);
-        let here = Side {
-            run: run,
-            lens: lens,
-        };
-        Bench {
-            plan: plan,
-            here: here,
-            there: there,
-            memory: b.memory,
-        }
-    }
-
-    // A run begins or is given a base, where a line says so.
-    pub fn act(
-        self,
+    // A command is done, and what it got is written.
+    pub fn play(
+        &mut self,
         rt: &impl Print,
-        l: Line,
-        chrom: &[u64; SLOTS],
-        start: &[u64; SLOTS],
-        stop: &[u64; SLOTS],
-        queue: &mut [[u64; 4]; QUEUES],
-    ) -> io::Result<Bench> {
-        let plan = self.plan;
-        let side = self.here;
-        let lens = side.lens;
-        let run = side.run;
-        let letter = l.letter;
-        if letter == b'b' {
-            let b = Base {
-                chrom: Chrom(l.a),
-                start: l.b,
-                stop: l.c,
-            };
-            let after = given::give(rt, run, lens, b, self.memory, chrom, start, stop, queue)?;
-            return Ok(self.with_run(after));
+        command: Command,
+        memory: &mut Memory,
+    ) -> io::Result<()> {
+        match command {
+            Command::Case => *self = Bench::new(),
+            Command::Chroms(n) => self.plan.chroms = n,
+            Command::Name(k, from, to) => self.plan.set_name(k, from, to),
+            Command::Stream => self.plan.add_stream(),
+            Command::Rows(row, n) => self.lay_rows(row, n, &mut memory.rows),
+            Command::Range(k, from, to) => self.plan.set_range(k, from, to),
+            Command::Lend(room) => self.here.lens = self.plan.lens_for(room),
+            Command::Length(k, n) => self.set_length(k, n),
+            Command::Begin(room) => self.here.run = given::begin(rt, self, room, &memory.rows)?,
+            Command::LendAndBegin(lent, room) => {
+                self.here.lens = self.plan.lens_for(lent);
+                self.here.run = given::begin(rt, self, room, &memory.rows)?;
+            }
+            Command::Give(base) => self.here.run = given::give(rt, self, base, memory)?,
+            Command::Turn => self.turn(),
+            Command::Slot(i, record) => set_slot(
+                &mut memory.queue,
+                self.memory.saturating_add(i),
+                record,
+            ),
+            Command::Field(field, k, value) => {
+                tamper::set_field(&mut self.here.run, field, k, value)
+            }
+            Command::Mark(mark) => self.here.run.mark = mark,
+            Command::Remark => {}
         }
-        if is_start(letter) {
-            let begun = given::begin(rt, plan, l.a as usize, lens, chrom, start, stop)?;
-            return Ok(self.with_run(begun));
-        }
-        Ok(self)
+        Ok(())
     }
 }

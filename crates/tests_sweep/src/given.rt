@@ -1,285 +1,133 @@
 // A run begins, and a base is given to it; what comes is written.
-use crate::cases::Plan;
-use crate::{SLOTS, put, say};
+use crate::SLOTS;
+use crate::cases::{Bench, Memory, Rows};
+use fields::NameList;
 use rules::{Answer, Base, End, Offer, Settings, Unbegun};
-use runs::{Begins, Given, Run};
+use runs::Run;
 use std::io;
-use std::io::Print;
-use tests_shared::{
-    answer_rows, front, more, name_ends, name_starts, name_text, places, row_at, slots, stream_at,
-};
+use tests_shared::{at, front, name_ends, name_starts, name_text, part_mut};
 
 // What stands in an answer row before a base.
 const MARK: u64 = 7777777;
 
-// How many streams and how many row numbers of the answer rows are as they were.
-#[derive(Clone, Copy)]
-struct Kept {
-    streams: u64,
-    rows: u64,
-}
-
 // A stream and a row of it.
-fn show_pair(rt: &impl Print, stream: u64, row: u64) -> io::Result<()> {
-    put(rt, b" ")?;
-    say(rt, stream)?;
-    put(rt, b"/")?;
-    say(rt, row)
-}
-
-// The first answer rows of n, sixteen at most.
-fn show_first(rt: &impl Print, n: usize, answers: &[[u64; 2]]) -> io::Result<()> {
-    let mut i: usize = 0;
-    while i < n {
-        if i == 16 {
-            return Ok(());
-        }
-        show_pair(rt, stream_at(answers, i), row_at(answers, i))?;
-        i += 1;
-    }
-    Ok(())
+fn show_pair(rt: &impl Print, [stream, row]: [u64; 2]) -> io::Result<()> {
+    print!(rt; " {stream}/{row}")
 }
 
 // The n answer rows, of more than sixteen those and the last.
 fn show_rows(rt: &impl Print, n: usize, answers: &[[u64; 2]]) -> io::Result<()> {
-    show_first(rt, n, answers)?;
+    for i in 0..n.min(16) {
+        show_pair(rt, at(answers, i))?;
+    }
     if 16 < n {
-        put(rt, b" ..")?;
-        show_pair(rt, stream_at(answers, n - 1), row_at(answers, n - 1))?;
+        print!(rt; " ..")?;
+        show_pair(rt, at(answers, n - 1))?;
     }
     Ok(())
-}
-
-// One more where a number is as it was.
-fn counted(count: u64, x: u64) -> u64 {
-    if x == MARK { more(count) } else { count }
-}
-
-// How many streams and how many row numbers of the answer rows, from one place up to another, are as they were.
-fn marks(answers: &[[u64; 2]], from: usize, to: usize) -> Kept {
-    let mut streams: u64 = 0;
-    let mut rows: u64 = 0;
-    let mut i = from;
-    while i < to {
-        streams = counted(streams, stream_at(answers, i));
-        rows = counted(rows, row_at(answers, i));
-        i += 1;
-    }
-    Kept {
-        streams: streams,
-        rows: rows,
-    }
 }
 
 // The place offered.
 fn show_offer(rt: &impl Print, o: Offer) -> io::Result<()> {
     match o {
-        Offer::Nothing => put(rt, b", no place"),
-        Offer::Upto(p) => {
-            let c = p.chrom;
-            put(rt, b", place ")?;
-            say(rt, c.0)?;
-            put(rt, b" ")?;
-            say(rt, p.stop)
-        }
+        None => print!(rt; ", no place"),
+        Some(p) => print!(rt; ", place {} {}", p.chrom.0, p.stop),
     }
 }
 
 // What ended the run: its number, for 7 and 8 stream and row.
 fn show_end(rt: &impl Print, e: End) -> io::Result<()> {
     match e {
-        End::Faulty(s, row) => {
-            put(rt, b"7 at")?;
-            show_pair(rt, s.0, row)
+        End::Faulty(s, row) | End::Unsorted(s, row) => {
+            print!(rt; "{} at {}/{row}", e.number(), s.0)
         }
-        End::Unsorted(s, row) => {
-            put(rt, b"8 at")?;
-            show_pair(rt, s.0, row)
-        }
-        End::NoRoom => put(rt, b"9"),
-        End::NoRows => put(rt, b"10"),
+        End::NoRoom | End::NoRows => print!(rt; "{}", e.number()),
     }
 }
 
-// What is as it was in the answer rows behind the first n, of those that were lent.
-fn show_kept(rt: &impl Print, n: usize, lens: [usize; 8], answers: &[[u64; 2]]) -> io::Result<()> {
-    let m = marks(answers, n, lens[5]);
-    put(rt, b", kept ")?;
-    say(rt, m.streams)?;
-    put(rt, b"/")?;
-    say(rt, m.rows)
+// How many streams and how many row numbers are as they were in the answer rows behind the first n, of those that were lent.
+fn show_kept(rt: &impl Print, n: usize, lent: usize, answers: &[[u64; 2]]) -> io::Result<()> {
+    let mut streams: u64 = 0;
+    let mut rows: u64 = 0;
+    for i in n..lent {
+        let [stream, row] = at(answers, i);
+        streams = streams.saturating_add(u64::from(stream == MARK));
+        rows = rows.saturating_add(u64::from(row == MARK));
+    }
+    print!(rt; ", kept {streams}/{rows}")
 }
 
-// What a base got: how many answer rows, the rest by its number.
-fn show_answer(rt: &impl Print, a: Answer, answers: &[[u64; 2]]) -> io::Result<usize> {
-    match a {
+// What a base got, and what it left of the answer rows, so many of which were lent.
+fn show(rt: &impl Print, a: Answer, lent: usize, answers: &[[u64; 2]]) -> io::Result<()> {
+    let n = match a {
         Answer::Found(n, o) => {
-            put(rt, b": found ")?;
-            say(rt, n as u64)?;
+            print!(rt; ": found {n}")?;
             show_rows(rt, n, answers)?;
             show_offer(rt, o)?;
-            Ok(n)
+            n
         }
         Answer::Refused(x) => {
-            put(rt, b": refused ")?;
-            say(rt, measures::refusal_number(x))?;
-            Ok(0)
+            print!(rt; ": refused {}", x.number())?;
+            0
         }
         Answer::Ended(e) => {
-            put(rt, b": ended ")?;
+            print!(rt; ": ended ")?;
             show_end(rt, e)?;
-            Ok(0)
+            0
         }
-    }
+    };
+    show_kept(rt, n, lent, answers)
 }
 
-// What a base got, and what it left of the answer rows.
-fn show(
-    rt: &impl Print,
-    a: Answer,
-    lens: [usize; 8],
-    answers: &[[u64; 2]; SLOTS],
-) -> io::Result<()> {
-    let n = show_answer(rt, a, answers)?;
-    show_kept(rt, n, lens, answers)
-}
-
-// A base is given to a run, with the queue's slots from a place on.
-fn give_part(
-    run: Run,
-    lens: [usize; 8],
-    b: Base,
-    memory: usize,
-    chrom: &[u64],
-    start: &[u64],
-    stop: &[u64],
-    lengths: &[u64],
-    queue: &mut [[u64; 4]],
-    answers: &mut [[u64; 2]],
-) -> Given {
-    sweep::give(
-        run,
-        b,
-        chrom,
-        start,
-        stop,
-        lengths,
-        slots(queue, memory, lens[4]),
-        answers,
-    )
-}
-
-// A base is given to a run, with so many answer rows, and what it got is written.
-fn give_marked(
-    rt: &impl Print,
-    run: Run,
-    lens: [usize; 8],
-    b: Base,
-    memory: usize,
-    chrom: &[u64],
-    start: &[u64],
-    stop: &[u64],
-    lengths: &[u64],
-    queue: &mut [[u64; 4]],
-) -> io::Result<Run> {
-    let mut answers = [[MARK; 2]; SLOTS];
-    let g = give_part(
-        run,
-        lens,
-        b,
-        memory,
-        chrom,
-        start,
-        stop,
-        lengths,
-        queue,
-        answer_rows(&mut answers, lens[5]),
-    );
-    let answer = g.answer;
-    show(rt, answer, lens, &answers)?;
-    Ok(g.run)
-}
-
-// A base is given to a run, with as much of each slice as is lent.
-pub fn give(
-    rt: &impl Print,
-    run: Run,
-    lens: [usize; 8],
-    b: Base,
-    memory: usize,
-    chrom: &[u64],
-    start: &[u64],
-    stop: &[u64],
-    queue: &mut [[u64; 4]],
-) -> io::Result<Run> {
-    let mut lengths = [18446744073709551615u64; 257];
+// A base is given to the run in use, with as much of each slice as is lent; the run behind it.
+pub fn give(rt: &impl Print, bench: &Bench, b: Base, memory: &mut Memory) -> io::Result<Run> {
+    let lens = bench.here.lens;
+    let mut lengths = [u64::MAX; 257];
     lengths[0] = 1000;
-    give_marked(
-        rt,
-        run,
-        lens,
+    let mut answers = [[MARK; 2]; SLOTS];
+    let given = sweep::give(
+        bench.here.run,
         b,
-        memory,
-        front(chrom, lens[0]),
-        front(start, lens[1]),
-        front(stop, lens[2]),
+        memory.rows.lent(lens),
         front(&lengths, lens[3]),
-        queue,
-    )
+        part_mut(&mut memory.queue, bench.memory, lens[4]),
+        part_mut(&mut answers, 0, lens[5]),
+    );
+    show(rt, given.answer, lens[5], &answers)?;
+    Ok(given.run)
 }
 
 // Whether a run begins.
-fn show_start(rt: &impl Print, b: Begins) -> io::Result<()> {
-    match b {
-        Begins::Begun => put(rt, b": begun"),
-        Begins::Refused(x) => match x {
-            Unbegun::Sizes => put(rt, b": refused 1"),
-            Unbegun::Names => put(rt, b": refused 2"),
-        },
+fn show_start(rt: &impl Print, started: Result<Run, Unbegun>) -> io::Result<()> {
+    match started {
+        Ok(_) => print!(rt; ": begun"),
+        Err(x) => print!(rt; ": refused {}", x.number()),
     }
 }
 
-// One name stands elsewhere.
-fn with_odd(names: [usize; 257], k: usize, place: usize) -> [usize; 257] {
-    let mut ns = names;
-    if k < 257 {
-        ns[k] = place;
-    }
-    ns
-}
-
-// A run begins.
-pub fn begin(
-    rt: &impl Print,
-    p: Plan,
-    room: usize,
-    lens: [usize; 8],
-    chrom: &[u64],
-    start: &[u64],
-    stop: &[u64],
-) -> io::Result<Run> {
-    let from = with_odd(name_starts(), p.odd, p.odd_from);
-    let to = with_odd(name_ends(), p.odd, p.odd_to);
+// A run begins, with a room, and with as much of each slice as is lent.
+pub fn begin(rt: &impl Print, bench: &Bench, room: usize, rows: &Rows) -> io::Result<Run> {
+    let plan = bench.plan;
+    let lens = bench.here.lens;
     let text = name_text();
-    let rows_from = p.from;
-    let rows_to = p.to;
+    let mut from = name_starts();
+    let mut to = name_ends();
+    if plan.odd < 257 {
+        from[plan.odd] = plan.odd_from;
+        to[plan.odd] = plan.odd_to;
+    }
     let fixed = Settings {
-        streams: p.streams,
-        chroms: p.chroms,
-        room: room,
+        streams: plan.streams,
+        chroms: plan.chroms,
+        room,
     };
-    let s = Run::start(
-        fixed,
-        rows_from,
-        rows_to,
-        &text,
-        places(&from, lens[6]),
-        places(&to, lens[7]),
-        front(chrom, lens[0]),
-        front(start, lens[1]),
-        front(stop, lens[2]),
-    );
-    let begins = s.begins;
-    show_start(rt, begins)?;
-    Ok(s.run)
+    let rows = rows.lent(lens);
+    let names = NameList {
+        text: &text,
+        from: front(&from, lens[6]),
+        to: front(&to, lens[7]),
+    };
+    let started = Run::start(fixed, plan.from, plan.to, names, rows);
+    show_start(rt, started)?;
+    Ok(started.unwrap_or(Run::none()))
 }

@@ -22,110 +22,49 @@
 //   z KIND A B C          the run's mark is overwritten: 7 to 10, ended by that, for 7 and 8 at stream A and row B
 #![tactic(auto)]
 
-ghost use Rattle.std.specs.Prelude.{◌<◌, ◌≤◌, length, IfOk};
-
 mod cases;
+mod command;
 mod given;
 mod tamper;
 
-use cases::{Bench, put_rows, put_slot};
+use cases::{Bench, Memory, Rows};
+use command::Command;
 use std::io;
-use std::io::{Print, Read};
-use tests_shared::{line_end, number};
+use tests_shared::Reader;
 
 // How many slots the columns have, and the queue, which holds the memory of two runs.
 pub const SLOTS: usize = 65538;
 
 pub const QUEUES: usize = 65601;
 
-// A line: its letter, and the numbers behind it, 0 where there is none.
-#[derive(Clone, Copy)]
-pub struct Line {
-    pub letter: u8,
-    pub a: u64,
-    pub b: u64,
-    pub c: u64,
-    pub d: u64,
-    pub e: u64,
-}
-
-pub fn put(rt: &impl Print, bytes: &[u8]) -> io::Result<()> {
-    rt.write_all(bytes)
-}
-
-pub fn say(rt: &impl Print, n: u64) -> io::Result<()> {
-    rt.print(n)
-}
-
-// The line that stands at a place.
-fn line_at(text: &[u8], at: usize) -> Line
-    requires { at < length text.now }
-{
-    let a = number(text, at + 2);
-    let b = number(text, a.next);
-    let c = number(text, b.next);
-    let d = number(text, c.next);
-    let e = number(text, d.next);
-    Line {
-        letter: text[at],
-        a: a.value,
-        b: b.value,
-        c: c.value,
-        d: d.value,
-        e: e.value,
-    }
-}
-
-// A line is written as it stands, up to its end.
-fn show_line(rt: &impl Print, text: &[u8], at: usize) -> io::Result<()>
-    requires { at < length text.now }
-{
-    let end = line_end(text, at);
-    put(rt, &text[at..end - 1])
-}
-
-fn end_line(rt: &impl Print) -> io::Result<()> {
-    put(rt, b"\n")
-}
-
-// All cases of a text.
+// All cases of a text: each line as it stands, but for its end, and what its command got.
 fn play_all(rt: &impl Print, text: &[u8]) -> io::Result<()> {
-    let mut chrom = [0u64; SLOTS];
-    let mut start = [0u64; SLOTS];
-    let mut stop = [0u64; SLOTS];
-    let mut queue = [[0u64; 4]; QUEUES];
-    let mut bench = Bench::fresh();
+    let rows = Rows {
+        chrom: [0; SLOTS],
+        start: [0; SLOTS],
+        stop: [0; SLOTS],
+    };
+    let mut memory = Memory {
+        rows,
+        queue: [[0; 4]; QUEUES],
+    };
+    let mut bench = Bench::new();
     let mut at: usize = 0;
-    while at < text.len() {
-        let line = line_at(text, at);
-        show_line(rt, text, at)?;
-        bench = bench.after(line);
-        put_rows(line, bench, &mut chrom, &mut start, &mut stop);
-        put_slot(line, bench, &mut queue);
-        bench = bench.act(rt, line, &chrom, &start, &stop, &mut queue)?;
-        end_line(rt)?;
-        at = line_end(text, at);
+    for line in text.split_inclusive(|b| *b == b'\n') {
+        let letter = line.first().copied().unwrap_or(b'#');
+        let numbers = Reader {
+            text,
+            at: at.saturating_add(2),
+        };
+        rt.write_all(&line[..line.len().saturating_sub(1)])?;
+        bench.play(rt, Command::read(letter, numbers), &mut memory)?;
+        rt.write_all(b"\n")?;
+        at = at.saturating_add(line.len());
     }
     Ok(())
 }
 
-// Fills a buffer from a reader, up to the end of either, and tells how many bytes were read.
-fn read_full(reader: &mut impl Read, buffer: &mut [u8]) -> io::Result<usize>
-    ensures { IfOk result (λ n. n ≤ length buffer.old) }
-{
-    let mut n: usize = 0;
-    while n < buffer.len() {
-        let k = reader.read(&mut buffer[n..])?;
-        if k == 0 {
-            break;
-        }
-        n += k;
-    }
-    Ok(n)
-}
-
 fn main(rt: HostRuntime) -> io::Result<()> {
-    let mut buffer = [0u8; 65536];
-    let n = read_full(&mut rt.stdin(), &mut buffer)?;
-    play_all(&rt, &buffer[..n])
+    let text = tests_shared::read_text(rt.alloc(), rt.stdin())?;
+    play_all(&rt, &text)
 }

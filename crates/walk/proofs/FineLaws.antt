@@ -7,23 +7,28 @@ use Prim.Native.Nat.{ℕ, ◌≤◌, ◌<◌}
 use native.Mathlib.Omega.{arith}
 use native.Mathlib.Nat.{sub-zero}
 use lib.ListN.{length, get_or, take}
+use lib.Seq.{length-take-le}
 use Rattle.fields.specs.Names.{within}
-use Rattle.heads.specs.View.{Cols}
+use Rattle.heads.specs.View.{Cols, cols_of}
 use Rattle.inputs.specs.Texts.{Texts, fault, fault_of}
 use Rattle.inputs.specs.Parted.{texts_of, sized_by}
-use Rattle.inputs.specs.Read.{fault_by, Reads}
+use Rattle.inputs.specs.Read.{Reads}
 use Rattle.inputs.specs.declared.Read.{Read}
-use Rattle.inputs.specs.declared.Verdict.TheVariants as verdict
+use Rattle.std.specs.Prelude.{Ok}
 use Rattle.inputs.proofs.Parting.{texts_list, texts_sizes}
 use Rattle.inputs.proofs.Reading.{some_texts, list_within}
 use Rattle.walk.specs.Run.{Bases, Fine}
+use Rattle.walk.specs.Memory.{FineIn, Stands}
+use Rattle.walk.specs.declared.Memory.{Memory}
+use Rattle.walk.specs.declared.Tables.{Tables}
 use Rattle.walk.proofs.Beginning.{fine_sizes}
 
--- nothing is wrong where the verdict says so
-pub fine_read : {t : Texts} {r : Read} {from to len : List ℕ} {b s : Cols} → Reads t r from to len b s → r.verdict ≡ verdict.Fine → Fine t r from to len b s
-fine_read {t} h v =
-    let fine : fault_of t ≡ none = sym h.fault ∙ ap fault_by v in
-    record { fine = fine; eight = h.eight; rooms = h.rooms; columns = h.columns (fine_sizes t fine) }
+-- nothing is wrong where the answer says so
+pub fine_read : {t : Texts} {r : Read} {from to len : List ℕ} {b s : Cols} → Reads t (Ok r) from to len b s → Fine t r from to len b s
+fine_read {t} {r} h =
+    let fine : fault_of t ≡ none = sym h.fault in
+    let held = h.columns (fine_sizes t fine) in
+    record { fine = fine; eight = rw (held.is) held.eight; rooms = h.rooms; columns = rw (held.is) held.columns }
 
 module _ {t : Texts} {r : Read} {from to len : List ℕ} {b s : Cols} (f : Fine t r from to len b s) where
   -- the names' columns have as many slots as there are names
@@ -61,3 +66,17 @@ module _ (bytes ends : List ℕ) {r : Read} {from to len : List ℕ} {b s : Cols
     start = omega (arith, f.columns.few, f.rooms.base_start);
     stop = omega (arith, f.columns.few, f.rooms.base_stop);
   }
+
+-- ---- the tables
+
+module _ {bytes ends : List ℕ} {r : Read} {m : Memory} {t : Tables} (f : FineIn (texts_of bytes ends) r m) (h : Stands bytes ends r m t) where
+  -- the bases stand in the tables, and the names in the list's text
+  pub stands_bases : Bases t.names.text.now t.names.from.now t.names.to.now (cols_of t.bases) r.bases
+  stands_bases = rw (h.text, h.from, h.to, h.bases) (bases_read bytes ends f)
+
+  -- as many names are there as were read
+  pub stands_from : length t.names.from.now ≡ r.names
+  stands_from = ap length h.from ∙ length-take-le r.names m.from (names_from f)
+
+  pub stands_to : length t.names.to.now ≡ r.names
+  stands_to = ap length h.to ∙ length-take-le r.names m.to (names_to f)

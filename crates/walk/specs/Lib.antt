@@ -1,2 +1,3 @@
--- A run inside a listing.
+-- A run inside a listing, and the memory of its texts.
 pub mod Run
+pub mod Memory

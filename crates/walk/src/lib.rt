@@ -3,100 +3,176 @@
 #![tactic(auto)]
 
 ghost use Rattle.std.specs.Prelude.{◌≡◌, [], ◌+◌, ◌≤◌, ◌<◌, length, get_or};
-ghost use Rattle.fields.specs.Names.{names};
-ghost use Rattle.heads.specs.View.{cols};
+ghost use Rattle.fields.specs.Names.{listed};
+ghost use Rattle.heads.specs.View.{cols_of};
 ghost use Rattle.pulls.specs.Pulls.{lent};
-ghost use Rattle.runs.specs.Start.{start_of};
+ghost use Rattle.runs.specs.Start.{start_of, kept_of};
 ghost use Rattle.replies.specs.List.{Lists};
 ghost use Rattle.inputs.specs.Texts.{rows_most, room};
+ghost use Rattle.inputs.specs.Parted.{texts_of};
 ghost use Rattle.inputs.specs.Read.{base_in};
 ghost use Rattle.walk.specs.Run.{Bases, plan_of};
+ghost use Rattle.walk.specs.Memory.{IsEmpty, ReadsTo, FineIn, Stands};
 
-use inputs::Read;
-use replies::Listed;
+use fields::NameList;
+use heads::Columns;
+use inputs::{InputError, Read};
+use replies::{Entry, Listed};
 use rules::{Base, Chrom, Settings};
 use runs::Run;
 
+// What a listing's texts hold: the chromosomes' names and lengths, the bases, and the streams' rows.
+#[derive(Clone, Copy)]
+pub struct Tables<'a> {
+    pub names: NameList<'a>,
+    pub lengths: &'a [u64],
+    pub bases: Columns<'a>,
+    pub rows: Columns<'a>,
+}
+
+// The memory that a listing's texts are read to: where each name begins and ends, the chromosomes' lengths, the bases and, in eight parts, the
+// streams' rows. It is of a fixed size, since a host's call takes no heap.
+#[derive(Drop)]
+pub struct Memory {
+    pub from: [usize; 1024],
+    pub to: [usize; 1024],
+    pub lengths: [u64; 1024],
+    pub base_chrom: [u64; 1024],
+    pub base_start: [u64; 1024],
+    pub base_stop: [u64; 1024],
+    pub chrom: [u64; 8192],
+    pub start: [u64; 8192],
+    pub stop: [u64; 8192],
+}
+
+impl Memory {
+    // Memory with nothing read to it.
+    pub fn new() -> Memory
+        ensures { IsEmpty result }
+    {
+        Memory {
+            from: [0; 1024],
+            to: [0; 1024],
+            lengths: [0; 1024],
+            base_chrom: [0; 1024],
+            base_start: [0; 1024],
+            base_stop: [0; 1024],
+            chrom: [0; 8192],
+            start: [0; 8192],
+            stop: [0; 8192],
+        }
+    }
+
+    // Reads all texts, and says what is wrong before the run. Given are the texts one behind the other and where each ends.
+    pub fn read(&mut self, bytes: &[u8], ends: &[usize]) -> Result<Read, InputError>
+        ensures { ReadsTo (texts_of bytes.now ends.now) result self.new }
+    {
+        inputs::read_texts(
+            bytes,
+            ends,
+            &mut self.from,
+            &mut self.to,
+            &mut self.lengths,
+            &mut self.base_chrom,
+            &mut self.base_start,
+            &mut self.base_stop,
+            &mut self.chrom,
+            &mut self.start,
+            &mut self.stop,
+        )
+    }
+
+    // The tables of texts that were read, with nothing wrong.
+    pub fn tables<'a>(&'a self, read: Read, bytes: &'a [u8], ends: &[usize]) -> Tables<'a>
+        requires { FineIn (texts_of bytes.now ends.now) read self.now }
+        ensures { Stands bytes.now ends.now read self.now result }
+    {
+        let n = read.names;
+        let names = NameList {
+            text: &bytes[..ends[0]],
+            from: &self.from[..n],
+            to: &self.to[..n],
+        };
+        let bases = Columns {
+            chrom: &self.base_chrom,
+            start: &self.base_start,
+            stop: &self.base_stop,
+        };
+        let rows = Columns {
+            chrom: &self.chrom,
+            start: &self.start,
+            stop: &self.stop,
+        };
+        Tables {
+            names,
+            lengths: &self.lengths[..n],
+            bases,
+            rows,
+        }
+    }
+}
+
 // The run of texts that were read, with nothing wrong.
-pub fn begin(
-    read: Read,
-    list: &[u8],
-    from: &[usize],
-    to: &[usize],
-    chrom: &[u64],
-    start: &[u64],
-    stop: &[u64],
-) -> Run
-    requires { (read.names ≤ length from.now) × (read.names ≤ length to.now) }
-    ensures { result ≡ (start_of (plan_of read list.now from.now to.now (cols chrom.now start.now stop.now))).run }
+pub fn begin(read: Read, tables: Tables) -> Run
+    requires { (read.names ≤ length tables.names.from.now) × (read.names ≤ length tables.names.to.now) }
+    ensures { result ≡ kept_of (start_of (plan_of read tables.entry.names.text.now tables.entry.names.from.now tables.entry.names.to.now (cols_of tables.entry.rows))) }
 {
     let n = read.names;
-    let tops = read.to;
+    let names = NameList {
+        text: tables.names.text,
+        from: &tables.names.from[..n],
+        to: &tables.names.to[..n],
+    };
     let places = [0, 1024, 2048, 3072, 4096, 5120, 6144, 7168];
     let fixed = Settings {
         streams: read.streams,
         chroms: n,
         room: 1024,
     };
-    let s = Run::start(
-        fixed,
-        places,
-        tops,
-        list,
-        &from[..n],
-        &to[..n],
-        chrom,
-        start,
-        stop,
-    );
-    s.run
+    match Run::start(fixed, places, read.to, names, tables.rows) {
+        Ok(run) => run,
+        Err(_) => Run::none(),
+    }
 }
 
 // Base number i is given to the run, and its lines are written.
 pub fn list_row(
     run: Run,
     i: usize,
-    list: &[u8],
-    from: &[usize],
-    to: &[usize],
-    lengths: &[u64],
-    bchrom: &[u64],
-    bstart: &[u64],
-    bstop: &[u64],
-    chrom: &[u64],
-    start: &[u64],
-    stop: &[u64],
+    tables: Tables,
     queue: &mut [[u64; 4]],
     answers: &mut [[u64; 2]],
     out: &mut [u8],
     at: usize,
 ) -> Listed
-    requires { Bases list.now from.now to.now (cols bchrom.now bstart.now bstop.now) (i + 1) }
-    ensures { Lists (cols chrom.now start.now stop.now) lengths.now run
-        (base_in (cols bchrom.now bstart.now bstop.now) i) i
-        (get_or (names list.now from.now to.now) (get_or bchrom.now i 0) [])
+    requires { Bases tables.names.text.now tables.names.from.now tables.names.to.now (cols_of tables.bases) (i + 1) }
+    ensures { Lists (cols_of tables.entry.rows) tables.entry.lengths.now run
+        (base_in (cols_of tables.entry.bases) i) i
+        (get_or (listed tables.entry.names) (get_or tables.entry.bases.chrom.now i 0) [])
         (lent queue.old answers.old)
         out.old at result
         (lent queue.new answers.new)
         out.new }
 {
-    let c = bchrom[i];
-    let base = Base {
-        chrom: Chrom(c),
-        start: bstart[i],
-        stop: bstop[i],
+    let bases = tables.bases;
+    let names = tables.names;
+    let c = bases.chrom[i];
+    let first = replies::place_at(names.from, c);
+    let end = replies::place_at(names.to, c);
+    let entry = Entry {
+        base: Base {
+            chrom: Chrom(c),
+            start: bases.start[i],
+            stop: bases.stop[i],
+        },
+        row: i as u64,
+        name: &names.text[first..end],
     };
-    let f = replies::place_at(from, c);
-    let t = replies::place_at(to, c);
     replies::list_base(
         run,
-        base,
-        i as u64,
-        &list[f..t],
-        chrom,
-        start,
-        stop,
-        lengths,
+        entry,
+        tables.rows,
+        tables.lengths,
         queue,
         answers,
         out,

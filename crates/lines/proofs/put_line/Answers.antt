@@ -5,13 +5,13 @@ use Rattle.lines.specs.Lines.{numbered}
 use Rattle.lines.proofs.Putting.{length_parts, puts_none, puts_parts}
 use Rattle.lines.proofs.put_line.Goals as goal
 
-pub returns-then-room-size : goal.returns-then-room-size
-returns-then-room-size c =
+pub returns-in_err-left : goal.returns-in_err-left
+returns-in_err-left c =
     let a = c.args in
-    puts_none (omega (arith, length_parts a.head.now a.name.now (numbered a.numbers.now) (10 ∷ [])))
+    rw c.from_residual.ensures (puts_none (omega (arith, length_parts a.head.now a.name.now (numbered a.numbers.now) (10 ∷ []))))
 
-pub returns-then-room-size-2 : goal.returns-then-room-size-2
-returns-then-room-size-2 c =
+pub returns-then-left-name : goal.returns-then-left-name
+returns-then-left-name c =
     let a = c.args in
     puts_none (omega (arith, length_parts a.head.now a.name.now (numbered a.numbers.now) (10 ∷ [])))
 

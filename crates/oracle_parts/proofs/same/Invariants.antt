@@ -1,9 +1,0 @@
--- `same`: the loop counts up to n.
-use Prim.Native.Nat.{◌-◌, ◌≤◌}
-use Rattle.oracle_parts.proofs.same.Given as goal
-
-abbrev pub invariant-loop-k : goal.invariant-loop-k
-invariant-loop-k l = l.k ≤ l.n
-
-abbrev pub decreases-loop-k : goal.decreases-loop-k
-decreases-loop-k l = l.n - l.k
