@@ -22,7 +22,8 @@ pub struct Columns<'a> {
     pub stop: &'a [u64],
 }
 
-// A head that is taken: its stream, whether it is live for the base, its row, start and stop.
+// A head that is taken: its stream, whether it is live for the base, its row, start and stop. Not an `Option` of what is to be queued: the stream goes on
+// either way, and `Takes` of the laws is over all five.
 #[derive(Clone, Copy)]
 pub struct Taken {
     pub stream: Stream,

@@ -1,4 +1,5 @@
-// The archive of the calls for hosts: each call of `inplace` under its C name, which promises what that one promises.
+// The archive of the calls for hosts: each call of `inplace` under its C name, which promises what that one promises. The clauses stand again since an
+// exported function has its own; and the slices are each a parameter, as C passes them.
 #![tactic(auto)]
 
 ghost use Rattle.std.specs.Prelude.{◌≡◌, length};

@@ -1,4 +1,5 @@
-// The archive of the listing: the call of `listing` under its C name, which promises what that one promises.
+// The archive of the listing: the call of `listing` under its C name, which promises what that one promises. The clause stands again since an exported
+// function has its own.
 #![tactic(auto)]
 
 ghost use Rattle.inputs.specs.Parted.{texts_of};

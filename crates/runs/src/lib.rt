@@ -15,7 +15,8 @@ use rules::{Answer, Chrom, End, Settings, Stage};
 
 // A run: of each stream its head's chromosome, start, stop and row, its mark (0: it goes on), the place of the row behind its head in the lent
 // columns and where its rows begin and end there; what is fixed from the start; where the oldest that waits stands, how many wait and the chromosome
-// that they are on; how the run stands. Any content is a run.
+// that they are on; how the run stands. Any content is a run. Flat arrays and numbers
+// alone, since a host keeps it in its own memory, in C's layout.
 #[repr(C)]
 #[derive(Clone, Copy)]
 pub struct Run {
