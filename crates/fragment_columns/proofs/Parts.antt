@@ -3,7 +3,7 @@ use Prim.Native.Nat.{ℕ}
 use mathlib.Core.Path.{◌≡◌, refl, sym, ap, ◌∙◌}
 use mathlib.Core.List.{List, [], ◌∷◌, map, flat_map}
 use mathlib.Core.Bool.{true, false}
-use mathlib.Core.Option.{Option, none, some}
+use mathlib.Core.Option.{Option, some}
 use native.Mathlib.Omega.{arith}
 use lib.ListN.{length, replicate, length-map}
 use Rattle.spans.specs.declared.Span.{Span}
@@ -28,10 +28,6 @@ map_one f b (x ∷ l) = rw (map_one f b l)
 
 -- one value in a column of base parts that are all the same
 module _ (f : Option Span → ℕ) (p : Parting) (base : Span) (rs : List Span) where
-  pub same_bare : p ≡ Bare → replicate (length (bases p base rs)) (f none) ≡ map f (bases p base rs)
-  unfolding bases
-  same_bare e = rw e
-
   pub same_single : p ≡ Single → replicate (length (bases p base rs)) (f (some base)) ≡ map f (bases p base rs)
   unfolding bases
   same_single e = rw e

@@ -2,15 +2,15 @@
 #![tactic(auto)]
 
 ghost use Rattle.std.specs.Prelude.{◌≡◌, ◌≤◌, length};
-ghost use Rattle.spans.specs.Spans.{spans};
+ghost use Rattle.spans.specs.Records.{spans_of};
 ghost use Rattle.layouts.specs.Fragments.{gaps};
 ghost use Rattle.layouts.specs.Given.{given, all_given, bases};
 ghost use Rattle.layouts.specs.Layout.{layout};
 ghost use Rattle.layouts.specs.Judged.{all_fitting, judged};
 
 use fragment_rules::{Giving, Parting, Rule};
-use layouts::{Answer, Refusal};
-use spans::{Span, gap_end, is_fitting, next_place, outside_count, stretch_count};
+use layouts::{Refusal, Written};
+use spans::{Records, Span, gap_end, is_fitting, next_place, outside_count, stretch_count};
 
 // How many pieces a record gives.
 pub fn piece_count(giving: Giving, base: Span, r: Span) -> usize
@@ -18,129 +18,95 @@ pub fn piece_count(giving: Giving, base: Span, r: Span) -> usize
 {
     match giving {
         Giving::Nothing => 0,
-        Giving::Record => 1,
-        Giving::Clip => 1,
+        Giving::Record | Giving::Clip => 1,
         Giving::Outside => outside_count(base, r),
     }
 }
 
 // How many pieces all records give.
-fn count_pieces(giving: Giving, base: Span, starts: &[u64], stops: &[u64]) -> usize
-    requires { length starts.now ≡ length stops.now }
-    ensures { result ≡ length (all_given giving base (spans starts.now stops.now)) }
+fn count_pieces(giving: Giving, base: Span, records: Records) -> usize
+    ensures { result ≡ length (all_given giving base (spans_of records.entry)) }
 {
     let mut n: usize = 0;
-    let mut i: usize = 0;
-    while i < starts.len() {
-        let r = Span {
-            start: starts[i],
-            stop: stops[i],
-        };
+    for r in records {
         n += piece_count(giving, base, r);
-        i += 1;
     }
     n
 }
 
 // How many gaps the base has.
-fn count_gaps(base: Span, starts: &[u64], stops: &[u64]) -> usize
-    requires { length starts.now ≡ length stops.now }
-    ensures { result ≡ length (gaps base (spans starts.now stops.now)) }
+fn count_gaps(base: Span, records: Records) -> usize
+    ensures { result ≡ length (gaps base (spans_of records.entry)) }
 {
     let end = base.stop;
     let mut place = base.start;
     let mut n: usize = 0;
-    let mut i: usize = 0;
-    while i < starts.len() {
-        let r = Span {
-            start: starts[i],
-            stop: stops[i],
-        };
+    for r in records {
         n += stretch_count(place, gap_end(place, r));
         place = next_place(place, r);
-        i += 1;
     }
     n + stretch_count(place, end)
 }
 
 // Whether every record fits the base and the record ahead of it.
-fn are_fitting(base: Span, starts: &[u64], stops: &[u64]) -> bool
-    requires { length starts.now ≡ length stops.now }
-    ensures { result ≡ all_fitting base 0 (spans starts.now stops.now) }
+fn are_fitting(base: Span, records: Records) -> bool
+    ensures { result ≡ all_fitting base 0 (spans_of records.entry) }
 {
     let mut ahead: u64 = 0;
-    let mut i: usize = 0;
-    while i < starts.len() {
-        let r = Span {
-            start: starts[i],
-            stop: stops[i],
-        };
+    for r in records {
         if !is_fitting(base, ahead, r) {
             return false;
         }
         ahead = r.start;
-        i += 1;
     }
     true
 }
 
 // How many fragments there are.
-fn fragment_count(parting: Parting, base: Span, starts: &[u64], stops: &[u64]) -> usize
-    requires { length starts.now ≡ length stops.now }
-    ensures { result ≡ length (bases parting base (spans starts.now stops.now)) }
+#[tactic(auto, unfolding(layouts::specs::Given::bases))]
+fn fragment_count(parting: Parting, base: Span, records: Records) -> usize
+    ensures { result ≡ length (bases parting base (spans_of records.entry)) }
 {
     match parting {
-        Parting::Bare => 1,
-        Parting::Single => 1,
-        Parting::EachRecord => {
-            if starts.len() == 0 {
-                return 1;
-            }
-            starts.len()
-        }
-        Parting::EachClip => starts.len(),
-        Parting::EachGap => count_gaps(base, starts, stops),
+        Parting::Bare | Parting::Single => 1,
+        Parting::EachRecord => records.len().max(1),
+        Parting::EachClip => records.len(),
+        Parting::EachGap => count_gaps(base, records),
     }
 }
 
 // How many pieces are written for n fragments.
-fn piece_total(n: usize, rule: Rule, base: Span, starts: &[u64], stops: &[u64]) -> usize
-    requires { (length starts.now ≡ length stops.now) × (n ≡ length (layout rule base (spans starts.now stops.now)).bases) }
-    ensures { result ≡ length (layout rule base (spans starts.now stops.now)).pieces }
+fn piece_total(n: usize, rule: Rule, base: Span, records: Records) -> usize
+    requires { n ≡ length (layout rule base (spans_of records)).bases }
+    ensures { result ≡ length (layout rule base (spans_of records.entry)).pieces }
 {
     if n == 0 {
-        return 0;
+        0
+    } else {
+        count_pieces(rule.1, base, records)
     }
-    let giving = rule.1;
-    count_pieces(giving, base, starts, stops)
 }
 
 // The answer at a rule, with so many slots lent for fragments and for pieces.
 pub fn judge(
     rule: Rule,
     base: Span,
-    starts: &[u64],
-    stops: &[u64],
+    records: Records,
     slots: usize,
     room: usize,
-) -> Answer
-    requires { length starts.now ≡ length stops.now }
-    ensures { result ≡ judged rule base (spans starts.now stops.now) slots room }
+) -> Result<Written, Refusal>
+    ensures { result ≡ judged rule base (spans_of records.entry) slots room }
 {
     if base.stop < base.start {
-        return Answer::Refused(Refusal::Backwards);
+        return Err(Refusal::Backwards);
     }
-    if !are_fitting(base, starts, stops) {
-        return Answer::Refused(Refusal::Records);
+    if !are_fitting(base, records) {
+        return Err(Refusal::Records);
     }
-    let parting = rule.0;
-    let n = fragment_count(parting, base, starts, stops);
-    let m = piece_total(n, rule, base, starts, stops);
-    if slots < n {
-        return Answer::Refused(Refusal::Room);
+    let fragments = fragment_count(rule.0, base, records);
+    let pieces = piece_total(fragments, rule, base, records);
+    if slots < fragments || room < pieces {
+        return Err(Refusal::Room);
     }
-    if room < m {
-        return Answer::Refused(Refusal::Room);
-    }
-    Answer::Written(n, m)
+    Ok(Written { fragments, pieces })
 }

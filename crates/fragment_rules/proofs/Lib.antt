@@ -1,3 +1,3 @@
--- The laws that the table's one computed test stands on.
+-- The table's one computed test, and the laws that it stands on.
 pub mod Entries
 pub mod Table

@@ -1,11 +1,11 @@
 // The choices for the base (A) and for the records (B), and the table of their twenty-five pairs: the fragment rule of each.
 #![tactic(auto)]
 
-ghost use Rattle.std.specs.Prelude.{◌≡◌, ◌<◌};
-ghost use Rattle.fragment_rules.specs.Rules.{rule_of, place_of};
+ghost use Rattle.std.specs.Prelude.{◌≡◌};
+ghost use Rattle.fragment_rules.specs.Rules.{rule_of};
 
 // What to report of the base (A), or of a record (B).
-#[derive(Clone, Copy)]
+#[derive(Clone, Copy, Debug, PartialEq, Eq)]
 pub enum Choice {
     None,
     Whole,
@@ -15,7 +15,7 @@ pub enum Choice {
 }
 
 // Where the base parts of the fragments come from.
-#[derive(Clone, Copy)]
+#[derive(Clone, Copy, PartialEq, Eq)]
 pub enum Parting {
     // One fragment, with no base part.
     Bare,
@@ -30,7 +30,7 @@ pub enum Parting {
 }
 
 // What a record gives to the pieces.
-#[derive(Clone, Copy)]
+#[derive(Clone, Copy, PartialEq, Eq)]
 pub enum Giving {
     Nothing,
     Record,
@@ -41,7 +41,7 @@ pub enum Giving {
 }
 
 // The fragment rule of a pair of choices: where the base parts come from, and what a record gives.
-#[derive(Clone, Copy)]
+#[derive(Clone, Copy, PartialEq, Eq)]
 pub struct Rule(pub Parting, pub Giving);
 
 // The rule of each pair: a row for each choice for A, in it an entry for each choice for B, both in the order None, Whole, WholeWide, Piece, Inverse.
@@ -83,24 +83,9 @@ const RULES: [[Rule; 5]; 5] = [
     ],
 ];
 
-// The place of a choice in the table.
-fn place_of(c: Choice) -> usize
-    ensures { (result ≡ place_of c) × (result < 5) }
-{
-    match c {
-        Choice::None => 0,
-        Choice::Whole => 1,
-        Choice::WholeWide => 2,
-        Choice::Piece => 3,
-        Choice::Inverse => 4,
-    }
-}
-
 // The rule of a pair.
 pub fn rule_of(a: Choice, b: Choice) -> Rule
     ensures { result ≡ rule_of a b }
 {
-    let i = place_of(a);
-    let j = place_of(b);
-    RULES[i][j]
+    RULES[a as usize][b as usize]
 }

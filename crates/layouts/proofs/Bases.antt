@@ -6,8 +6,7 @@ use mathlib.Core.Option.{Option}
 use native.Mathlib.Omega.{arith}
 use lib.ListN.{length, length-map}
 use Rattle.spans.specs.declared.Span.{Span}
-use Rattle.fragment_rules.specs.declared.Parting.TheVariants.{Bare, Single, EachRecord, EachClip, EachGap}
-use Rattle.layouts.specs.Fragments.{gaps}
+use Rattle.fragment_rules.specs.declared.Parting.TheVariants.{EachRecord, EachClip}
 use Rattle.layouts.specs.Given.{bases}
 use Rattle.layouts.specs.Layout.{if_any, owned}
 
@@ -18,14 +17,6 @@ map_map f g (x ∷ l) = rw (map_map f g l)
 
 module _ (base : Span) where
   -- how many base parts there are
-  pub count_bare : (rs : List Span) → 1 ≡ length (bases Bare base rs)
-  unfolding bases
-  count_bare rs = refl
-
-  pub count_single : (rs : List Span) → 1 ≡ length (bases Single base rs)
-  unfolding bases
-  count_single rs = refl
-
   pub count_none : (rs : List Span) → length rs ≡ 0 → 1 ≡ length (bases EachRecord base rs)
   unfolding bases
   count_none [] h = refl
@@ -40,15 +31,7 @@ module _ (base : Span) where
   unfolding bases
   count_clips rs = sym (simp length-map)
 
-  pub count_gaps : (rs : List Span) → length (gaps base rs) ≡ length (bases EachGap base rs)
-  unfolding bases
-  count_gaps rs = sym (simp length-map)
-
 -- pieces are there if there is a fragment
-pub pieces_none : (bs : List (Option Span)) (ps : List Span) → length bs ≡ 0 → if_any bs ps ≡ []
-pieces_none [] ps h = refl
-pieces_none (b ∷ bs) ps h = absurd (omega arith)
-
 pub pieces_all : (bs : List (Option Span)) (ps : List Span) → (length bs ≡ 0 → ⊥) → if_any bs ps ≡ ps
 pieces_all [] ps h = absurd (h refl)
 pieces_all (b ∷ bs) ps h = refl

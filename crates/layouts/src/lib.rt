@@ -1,8 +1,8 @@
 // The fragments in the words of the scope document, how a rule lays them out, and the answer of a call, for contracts and proofs: this crate has no functions.
-// Why nothing was written.
 #![tactic(auto)]
 
-#[derive(Clone, Copy)]
+// Why nothing was written.
+#[derive(Clone, Copy, Debug, PartialEq, Eq)]
 pub enum Refusal {
     // Lent columns differ in length.
     Sizes,
@@ -14,9 +14,9 @@ pub enum Refusal {
     Room,
 }
 
-// How many fragments and how many pieces were written, or why none.
-#[derive(Clone, Copy)]
-pub enum Answer {
-    Written(usize, usize),
-    Refused(Refusal),
+// How many fragments and how many pieces were written. An answer is these counts or a refusal.
+#[derive(Clone, Copy, Debug, PartialEq, Eq)]
+pub struct Written {
+    pub fragments: usize,
+    pub pieces: usize,
 }

@@ -3,7 +3,7 @@
 // A line: A B base_start base_stop n, n records, F, then for each fragment: present bstart bstop k, k pieces; `#` starts a comment line.
 #![tactic(auto)]
 
-use parts::{Answer, Choice, Span};
+use parts::{Choice, Span};
 use std::{fs, io};
 use tests_shared::{Reader, at};
 
@@ -101,10 +101,7 @@ fn replay_records(
         &mut f.pstart,
         &mut f.pstop,
     );
-    match answer {
-        Answer::Written(n, _) => f.matches_all(n, reader),
-        Answer::Refused(_) => None,
-    }
+    f.matches_all(answer.ok()?.fragments, reader)
 }
 
 // Whether the job that stands at a place has the fragments recorded with it. What can't be read ahead of the count is 0.

@@ -14,8 +14,8 @@ use Rattle.fragment_rules.specs.declared.Choice.{Choice}
 use Rattle.fragment_rules.specs.declared.Choice.TheVariants.{None, Whole, WholeWide, Piece, Inverse}
 use Rattle.layouts.specs.declared.Refusal.{Refusal}
 use Rattle.layouts.specs.declared.Refusal.TheVariants.{Room, Backwards, Records}
-use Rattle.layouts.specs.declared.Answer.{Answer}
-use Rattle.layouts.specs.declared.Answer.TheVariants.{Written, Refused}
+use Rattle.layouts.specs.declared.Written.{Written}
+use Rattle.std.specs.Prelude.{Result, Ok, Err}
 use Rattle.spans.specs.Spans.{stretch, only_if, span, clipped, before, after}
 use Rattle.layouts.specs.Fragments.{pieces, all_pieces, walk, gaps, fragment, fragments, whole}
 use Rattle.spans.specs.Turn.{gap_end, next_place}
@@ -23,7 +23,7 @@ use Rattle.fragment_rules.specs.Rules.{rule_of, giving_of}
 use Rattle.layouts.specs.Given.{all_given}
 use Rattle.layouts.specs.Columns.{Columns}
 use Rattle.layouts.specs.Layout.{layout, if_any}
-use Rattle.layouts.specs.Judged.{judged, unless, all_fitting}
+use Rattle.layouts.specs.Judged.{judged, unless, wrote, all_fitting}
 use Rattle.parts.specs.Promise.{Parted}
 use Rattle.parts.specs.Most.{most_fragments, most_pieces}
 use Rattle.layouts.proofs.Reading.{given_is, fragments_count}
@@ -88,19 +88,19 @@ most_pieces_lem a b base rs =
     omega (arith, none_or_all (layout (rule_of a b) base rs).bases (all_given (giving_of b) base rs), ap length e, few_pieces b base rs)
 
 -- with that many slots lent, no call is refused for room
-not_room : (t : Bool) (x : Refusal) (r : Answer) → (x ≡ Room → ⊥) → unless t x r ≡ Refused Room → r ≡ Refused Room
+not_room : (t : Bool) (x : Refusal) (r : Result Written Refusal) → (x ≡ Room → ⊥) → unless t x r ≡ Err Room → r ≡ Err Room
 not_room true x r h e = e
-not_room false x r h e = absurd (h (let q : Refused x ≡ Refused Room = e in cc))
+not_room false x r h e = absurd (h (let q : ◌≡◌ {A = Result Written Refusal} (Err x) (Err Room) = e in cc))
 
 pub enough : (a b : Choice) (base : Span) (rs : List Span) (slots room : ℕ) → most_fragments a (length rs) ≤ slots → most_pieces b (length rs) ≤ room →
-    judged (rule_of a b) base rs slots room ≡ Refused Room → ⊥
+    judged (rule_of a b) base rs slots room ≡ Err Room → ⊥
 enough a b base rs slots room p q e =
     let n = length (layout (rule_of a b) base rs).bases in
     let m = length (layout (rule_of a b) base rs).pieces in
     let fits : leb n slots && leb m room ≡ true = rw (le-leb n slots (omega (arith, fragments_count a b base rs, most_fragments_lem a b base rs)), le-leb m room (omega (arith, most_pieces_lem a b base rs))) in
-    let w : Answer = unless (leb n slots && leb m room) Room (Written n m) in
-    let z : w ≡ Refused Room = not_room (all_fitting base 0 rs) Records w (λ h. differ_records h) (not_room (leb base.start base.stop) Backwards (unless (all_fitting base 0 rs) Records w) (λ h. differ_backwards h) e) in
-    let y : Written n m ≡ Refused Room = rw fits at z in
+    let w : Result Written Refusal = unless (leb n slots && leb m room) Room (Ok (wrote n m)) in
+    let z : w ≡ Err Room = not_room (all_fitting base 0 rs) Records w (λ h. differ_records h) (not_room (leb base.start base.stop) Backwards (unless (all_fitting base 0 rs) Records w) (λ h. differ_backwards h) e) in
+    let y : ◌≡◌ {A = Result Written Refusal} (Ok (wrote n m)) (Err Room) = rw fits at z in
     let k : ◌≡◌ {A = ℕ} 0 1 = cc in
     omega arith
   where
@@ -111,7 +111,7 @@ enough a b base rs slots room p q e =
     differ_backwards h = let k : ◌≡◌ {A = ℕ} 0 1 = cc in omega arith
 
 -- two results that the promise allows are one
-pub one_result : (a b : Choice) (base : Span) (starts stops : List ℕ) (c : Columns) {r r₁ : Answer} {c' c₁ : Columns} →
+pub one_result : (a b : Choice) (base : Span) (starts stops : List ℕ) (c : Columns) {r r₁ : Result Written Refusal} {c' c₁ : Columns} →
     Parted a b base starts stops c r c' → Parted a b base starts stops c r₁ c₁ → (r ≡ r₁) × (c' ≡ c₁)
 one_result a b base starts stops c {r} {r₁} p q =
     let e : r ≡ r₁ = p.answer_is ∙ sym q.answer_is in

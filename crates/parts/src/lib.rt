@@ -3,58 +3,21 @@
 
 ghost use Rattle.std.specs.Prelude.{◌≡◌};
 ghost use Rattle.layouts.specs.Columns.{columns};
-ghost use Rattle.parts.specs.Valid.{sized_of, number_of, refusal_number};
+ghost use Rattle.parts.specs.Valid.{number_of, refusal_number};
 ghost use Rattle.parts.specs.Promise.{Parted};
 
 use fragment_columns::lay;
 use fragment_counts::judge;
 pub use fragment_rules::Choice;
 use fragment_rules::rule_of;
-pub use layouts::{Answer, Refusal};
+pub use layouts::{Refusal, Written};
+use spans::Records;
 pub use spans::Span;
-
-// The lengths of the lent columns.
-#[derive(Clone, Copy)]
-pub struct Lens {
-    pub starts: usize,
-    pub stops: usize,
-    pub present: usize,
-    pub bstart: usize,
-    pub bstop: usize,
-    pub from: usize,
-    pub to: usize,
-    pub pstart: usize,
-    pub pstop: usize,
-}
-
-// Whether the lent columns that belong together are of one length.
-fn is_sized(l: Lens) -> bool
-    ensures { result ≡ sized_of l }
-{
-    if l.starts != l.stops {
-        return false;
-    }
-    if l.present != l.bstart {
-        return false;
-    }
-    if l.present != l.bstop {
-        return false;
-    }
-    if l.present != l.from {
-        return false;
-    }
-    if l.present != l.to {
-        return false;
-    }
-    if l.pstart != l.pstop {
-        return false;
-    }
-    true
-}
 
 // The fragments of a base and one stream's records, under a choice for the base and one for the records. Fragment k has the base part
 // `bstart[k]` to `bstop[k]` if `present[k]` is 1, and none if it is 0; its pieces stand at `from[k]` up to, not including, `to[k]` of
 // `pstart` and `pstop`. Fragments that have the same pieces name the same range. A refusal writes nothing.
+// The columns come one by one, and not as `Records` or another struct: `Parted` promises a refusal where they differ in length, and names each that is written.
 pub fn fragments(
     a: Choice,
     b: Choice,
@@ -68,45 +31,39 @@ pub fn fragments(
     to: &mut [u64],
     pstart: &mut [u64],
     pstop: &mut [u64],
-) -> Answer
+) -> Result<Written, Refusal>
     ensures { Parted a b base starts.now stops.now
         (columns present.old bstart.old bstop.old from.old to.old pstart.old pstop.old)
         result (columns present.new bstart.new bstop.new from.new to.new pstart.new pstop.new) }
 {
-    let lens = Lens {
-        starts: starts.len(),
-        stops: stops.len(),
-        present: present.len(),
-        bstart: bstart.len(),
-        bstop: bstop.len(),
-        from: from.len(),
-        to: to.len(),
-        pstart: pstart.len(),
-        pstop: pstop.len(),
+    let Some(records) = Records::new(starts, stops) else {
+        return Err(Refusal::Sizes);
     };
-    if !is_sized(lens) {
-        return Answer::Refused(Refusal::Sizes);
+    let slots = present.len();
+    let room = pstart.len();
+    if bstart.len() != slots
+        || bstop.len() != slots
+        || from.len() != slots
+        || to.len() != slots
+        || pstop.len() != room
+    {
+        return Err(Refusal::Sizes);
     }
     let rule = rule_of(a, b);
-    let answer = judge(rule, base, starts, stops, present.len(), pstart.len());
-    match answer {
-        Answer::Written(n, m) => {
-            lay(
-                n, m, rule, base, starts, stops, present, bstart, bstop, from, to, pstart, pstop,
-            );
-            Answer::Written(n, m)
-        }
-        Answer::Refused(x) => Answer::Refused(x),
-    }
+    let counts = judge(rule, base, records, slots, room)?;
+    lay(
+        counts, rule, base, records, present, bstart, bstop, from, to, pstart, pstop,
+    );
+    Ok(counts)
 }
 
 // The number of an answer in the scope document: 0 where the fragments are written.
-pub fn number(r: Answer) -> u64
+pub fn number(r: Result<Written, Refusal>) -> u64
     ensures { result ≡ number_of r }
 {
     match r {
-        Answer::Written(_, _) => 0,
-        Answer::Refused(x) => refusal_number(x),
+        Ok(_) => 0,
+        Err(x) => refusal_number(x),
     }
 }
 

@@ -1,6 +1,6 @@
 -- Laws of spans that are written to two columns, one run behind the other. Assumes nothing.
 use Prim.Native.Nat.{ℕ, suc, ◌+◌, ◌≤◌}
-use mathlib.Core.Path.{◌≡◌, refl, sym, ap, ◌∙◌}
+use mathlib.Core.Path.{◌≡◌, sym, ap, ◌∙◌}
 use mathlib.Core.List.{List, [], ◌∷◌, ◌++◌, map, map-append}
 use native.Mathlib.Omega.{arith}
 use native.Mathlib.Nat.{add-zero, zero-add, add-suc, suc-add}
@@ -20,29 +20,6 @@ sets_on : (f : Span → ℕ) (xs ys : List Span) (l l₁ : List ℕ) (at next : 
     sets l₁ next (map f ys) ≡ sets l at (map f (xs ++ ys))
 sets_on f xs ys l l₁ at next p q = rw (p, q, map-append, sets_append, length-map)
 
-pub puts_none : (at : ℕ) (ss es : List ℕ) → Puts [] at ss es at ss es
-puts_none at ss es = record { after = omega arith; starts_are = refl; stops_are = refl }
-
-module _ (xs ys : List Span) (at : ℕ) (ss es : List ℕ) where
-  pub fits_first : Fits (xs ++ ys) at ss es → Fits xs at ss es
-  fits_first f = record { starts_fit = omega (arith, f.starts_fit, length-append xs ys); stops_fit = omega (arith, f.stops_fit, length-append xs ys) }
-
-  module _ {mid : ℕ} {ss₁ es₁ : List ℕ} (p : Puts xs at ss es mid ss₁ es₁) where
-    pub fits_second : Fits (xs ++ ys) at ss es → Fits ys mid ss₁ es₁
-    fits_second f =
-        record {
-          starts_fit = rw (p.starts_are, length-sets) (omega (arith, f.starts_fit, length-append xs ys, p.after));
-          stops_fit = rw (p.stops_are, length-sets) (omega (arith, f.stops_fit, length-append xs ys, p.after));
-        }
-
-    pub puts_both : {next : ℕ} {ss₂ es₂ : List ℕ} → Puts ys mid ss₁ es₁ next ss₂ es₂ → Puts (xs ++ ys) at ss es next ss₂ es₂
-    puts_both q =
-        record {
-          after = rw length-append (omega (arith, q.after, p.after));
-          starts_are = q.starts_are ∙ sets_on (λ (x : Span). x.start) xs ys ss ss₁ at mid p.starts_are p.after;
-          stops_are = q.stops_are ∙ sets_on (λ (x : Span). x.stop) xs ys es es₁ at mid p.stops_are p.after;
-        }
-
 -- what holds where the spans `rest` of all are still to be written, from the place `at` on
 pub record Filling (all : List Span) (ss₀ es₀ ss es : List ℕ) (at : ℕ) (rest : List Span) : Type 0 where
   pub so_far : at + length rest ≡ length all
@@ -50,9 +27,6 @@ pub record Filling (all : List Span) (ss₀ es₀ ss es : List ℕ) (at : ℕ) (
   pub long_stops : length es ≡ length es₀
   pub starts_left : sets ss at (starts_of rest) ≡ sets ss₀ 0 (starts_of all)
   pub stops_left : sets es at (stops_of rest) ≡ sets es₀ 0 (stops_of all)
-
-pub filling_start : (all : List Span) (ss es : List ℕ) → Filling all ss es ss es 0 all
-filling_start all ss es = record { so_far = omega arith; long_starts = refl; long_stops = refl; starts_left = refl; stops_left = refl }
 
 module _ (all : List Span) (ss₀ es₀ ss es : List ℕ) (at : ℕ) where
   pub filling_end : {rest : List Span} → rest ≡ [] → Filling all ss₀ es₀ ss es at rest → Puts all 0 ss₀ es₀ at ss es

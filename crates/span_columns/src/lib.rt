@@ -1,17 +1,18 @@
 // Spans written to two lent columns, one behind the other: the pieces of records, the gaps of a base, the ranges of pieces.
+// The two columns of a call are two of those that `parts::fragments` is lent, and its promise `Parted` names each by itself: so they stay apart, in no struct.
 #![tactic(auto)]
 
 ghost use Rattle.std.specs.Prelude.{◌≡◌, [], ◌∷◌, ◌<◌, ◌≤◌, length, replicate};
-ghost use Rattle.spans.specs.Spans.{stretch, spans};
+ghost use Rattle.spans.specs.Spans.{stretch};
+ghost use Rattle.spans.specs.Records.{spans_of};
 ghost use Rattle.layouts.specs.Fragments.{gaps};
 ghost use Rattle.layouts.specs.Given.{given, all_given};
 ghost use Rattle.layouts.specs.Layout.{owned};
-ghost use Rattle.layouts.specs.Columns.{over};
 ghost use Rattle.span_columns.specs.Writing.{Fits, Puts, Fronts};
 
 use fragment_counts::piece_count;
 use fragment_rules::Giving;
-use spans::{Span, after_begin, before_end, clip, gap_end, next_place};
+use spans::{Records, Span, after_begin, before_end, clip, gap_end, next_place};
 
 // One span more in two columns, at a place; the next place.
 fn put_span(x: Span, at: usize, starts: &mut [u64], stops: &mut [u64]) -> usize
@@ -29,9 +30,10 @@ fn put_stretch(a: u64, e: u64, at: usize, starts: &mut [u64], stops: &mut [u64])
     ensures { Puts (stretch a e) at starts.old stops.old result starts.new stops.new }
 {
     if a < e {
-        return put_span(Span { start: a, stop: e }, at, starts, stops);
+        put_span(Span { start: a, stop: e }, at, starts, stops)
+    } else {
+        at
     }
-    at
 }
 
 // The parts of a record before the base and after it, behind what stands in two columns.
@@ -39,10 +41,8 @@ fn put_outside(base: Span, r: Span, at: usize, starts: &mut [u64], stops: &mut [
     requires { Fits (given Giving.Outside base r) at starts.old stops.old }
     ensures { Puts (given Giving.Outside base r) at starts.old stops.old result starts.new stops.new }
 {
-    let end = before_end(base, r);
-    let begin = after_begin(base, r);
-    let middle = put_stretch(r.start, end, at, starts, stops);
-    put_stretch(begin, r.stop, middle, starts, stops)
+    let middle = put_stretch(r.start, before_end(base, r), at, starts, stops);
+    put_stretch(after_begin(base, r), r.stop, middle, starts, stops)
 }
 
 // The pieces of a record, behind what stands in two columns.
@@ -69,98 +69,59 @@ fn put_pieces(
 pub fn put_all(
     giving: Giving,
     base: Span,
-    starts: &[u64],
-    stops: &[u64],
-    outs: &mut [u64],
-    oute: &mut [u64],
+    records: Records,
+    starts: &mut [u64],
+    stops: &mut [u64],
 ) -> usize
-    requires { (length starts.now ≡ length stops.now) × Fits (all_given giving base (spans starts.now stops.now)) 0 outs.old oute.old }
-    ensures { Puts (all_given giving base (spans starts.now stops.now)) 0 outs.old oute.old result outs.new oute.new }
+    requires { Fits (all_given giving base (spans_of records)) 0 starts.old stops.old }
+    ensures { Puts (all_given giving base (spans_of records.entry)) 0 starts.old stops.old result starts.new stops.new }
 {
     let mut at: usize = 0;
-    let mut i: usize = 0;
-    while i < starts.len() {
-        let r = Span {
-            start: starts[i],
-            stop: stops[i],
-        };
-        at = put_pieces(giving, base, r, at, outs, oute);
-        i += 1;
+    for r in records {
+        at = put_pieces(giving, base, r, at, starts, stops);
     }
     at
 }
 
 // The gaps of the base, from the front of two columns on; how many.
-pub fn put_gaps(
-    base: Span,
-    starts: &[u64],
-    stops: &[u64],
-    outs: &mut [u64],
-    oute: &mut [u64],
-) -> usize
-    requires { (length starts.now ≡ length stops.now) × Fits (gaps base (spans starts.now stops.now)) 0 outs.old oute.old }
-    ensures { Puts (gaps base (spans starts.now stops.now)) 0 outs.old oute.old result outs.new oute.new }
+// The walk stands here and in `count_gaps`: gaps as an iterator would need a loop of its own in `next`, past empty stretches, and be no plainer than both.
+pub fn put_gaps(base: Span, records: Records, starts: &mut [u64], stops: &mut [u64]) -> usize
+    requires { Fits (gaps base (spans_of records)) 0 starts.old stops.old }
+    ensures { Puts (gaps base (spans_of records.entry)) 0 starts.old stops.old result starts.new stops.new }
 {
     let end = base.stop;
     let mut place = base.start;
     let mut at: usize = 0;
-    let mut i: usize = 0;
-    while i < starts.len() {
-        let met = Span {
-            start: starts[i],
-            stop: stops[i],
-        };
-        at = put_stretch(place, gap_end(place, met), at, outs, oute);
-        place = next_place(place, met);
-        i += 1;
+    for r in records {
+        at = put_stretch(place, gap_end(place, r), at, starts, stops);
+        place = next_place(place, r);
     }
-    put_stretch(place, end, at, outs, oute)
+    put_stretch(place, end, at, starts, stops)
 }
 
 // The range of each record's own pieces, where the pieces of all records stand one behind the other; how many ranges.
 pub fn put_ranges(
     giving: Giving,
     base: Span,
-    starts: &[u64],
-    stops: &[u64],
+    records: Records,
     from: &mut [u64],
     to: &mut [u64],
 ) -> usize
-    requires { (length starts.now ≡ length stops.now) × Fits (spans starts.now stops.now) 0 from.old to.old }
-    ensures { Puts (owned (given giving base) 0 (spans starts.now stops.now)) 0 from.old to.old result from.new to.new }
+    requires { Fits (spans_of records) 0 from.old to.old }
+    ensures { Puts (owned (given giving base) 0 (spans_of records.entry)) 0 from.old to.old result from.new to.new }
 {
+    let mut done: usize = 0;
     let mut at: usize = 0;
-    let mut i: usize = 0;
-    while i < starts.len() {
-        let r = Span {
-            start: starts[i],
-            stop: stops[i],
-        };
+    for r in records {
         let next = at + piece_count(giving, base, r);
-        i = put_span(
-            Span {
-                start: at as u64,
-                stop: next as u64,
-            },
-            i,
-            from,
-            to,
-        );
+        let range = Span {
+            start: at as u64,
+            stop: next as u64,
+        };
+        done = put_span(range, done, from, to);
         at = next;
     }
-    i
-}
-
-// One value in the first n places of a column.
-pub fn fill(column: &mut [u64], n: usize, v: u64)
-    requires { n ≤ length column.old }
-    ensures { column.new ≡ over (replicate n v) column.old }
-{
-    let mut i: usize = 0;
-    while i < n {
-        column[i] = v;
-        i += 1;
-    }
+    done
 }
 
 // Two values in the first n places of two columns.
@@ -168,6 +129,6 @@ pub fn fill_both(n: usize, v: u64, w: u64, starts: &mut [u64], stops: &mut [u64]
     requires { (n ≤ length starts.old) × (n ≤ length stops.old) }
     ensures { Fronts (replicate n v) (replicate n w) starts.old stops.old starts.new stops.new }
 {
-    fill(starts, n, v);
-    fill(stops, n, w);
+    starts[..n].fill(v);
+    stops[..n].fill(w);
 }

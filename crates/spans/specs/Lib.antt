@@ -2,3 +2,4 @@
 pub mod Spans
 pub mod Turn
 pub mod Fitting
+pub mod Records

@@ -18,10 +18,10 @@ use Rattle.rules.specs.Job.{Job, merged_of}
 use Rattle.theory.proofs.Modes.{Le}
 use Rattle.theory.proofs.StreamLaws.{merged_sorted, merged_good}
 use Rattle.fragment_rules.specs.declared.Rule.{Rule}
-use Rattle.layouts.specs.declared.Answer.TheVariants as answer
 use Rattle.layouts.specs.declared.Refusal.TheVariants as refusal
+use Rattle.std.specs.Prelude.{Ok, Err}
 use Rattle.layouts.specs.Layout.{layout}
-use Rattle.layouts.specs.Judged.{all_fitting, unless, judged}
+use Rattle.layouts.specs.Judged.{all_fitting, unless, wrote, judged}
 use Rattle.stream_answers.specs.Answer.{base_span, record_span, stream_answer}
 
 -- what passes a test stands in the order that it stood in
@@ -61,11 +61,11 @@ answer_fits j b i =
     (all_map (λ r e. omega arith) (all_filter mine (all_both (all_filter (overlaps b) (merged_good n j.streams)) (filter_passes (overlaps b) (merged_of j)))))
 
 -- so the parts are never refused by 13
-pub never_13 : (j : Job) (b : Base) (i : ℕ) (rule : Rule) (slots room : ℕ) → judged rule (base_span b) (stream_answer j b i) slots room ≡ answer.Refused refusal.Records → ⊥
+pub never_13 : (j : Job) (b : Base) (i : ℕ) (rule : Rule) (slots room : ℕ) → judged rule (base_span b) (stream_answer j b i) slots room ≡ Err refusal.Records → ⊥
 never_13 j b i rule slots room e =
     go (leb b.start b.stop) (leb (length (layout rule (base_span b) (stream_answer j b i)).bases) slots && leb (length (layout rule (base_span b) (stream_answer j b i)).pieces) room) _ _ (rw (answer_fits j b i) at e)
   where
-    go : (c d : Bool) (m k : ℕ) → unless c refusal.Backwards (unless d refusal.Room (answer.Written m k)) ≡ answer.Refused refusal.Records → ⊥
+    go : (c d : Bool) (m k : ℕ) → unless c refusal.Backwards (unless d refusal.Room (Ok (wrote m k))) ≡ Err refusal.Records → ⊥
     go true true m k z = let y : ◌≡◌ {A = ℕ} 0 1 = cc in absurd (omega arith)
     go true false m k z = let y : ◌≡◌ {A = ℕ} 0 1 = cc in absurd (omega arith)
     go false d m k z = let y : ◌≡◌ {A = ℕ} 0 1 = cc in absurd (omega arith)

@@ -1,14 +1,12 @@
-use Rattle.layouts.proofs.Rows.{rows_from}
 use Rattle.layouts.specs.Given.{all_given}
-use Rattle.spans.specs.Spans.{spans}
+use Rattle.spans.specs.Records.{spans_of, rest}
 use lib.ListN.{length}
 use mathlib.Core.Path.{◌≡◌}
-use Prim.Native.Nat.{◌+◌, ◌-◌, ◌≤◌}
+use Prim.Native.Nat.{◌+◌, ◌≤◌}
 use Rattle.fragment_counts.proofs.count_pieces.Given as goal
 
-abbrev pub invariant-loop-i : goal.invariant-loop-i
-invariant-loop-i l =
-    (l.i ≤ length l.starts) × (l.n ≤ l.i + l.i) × (l.n + length (all_given l.giving l.base (rows_from l.starts l.stops l.i)) ≡ length (all_given l.giving l.base (spans l.starts l.stops)))
-
-abbrev pub decreases-loop-i : goal.decreases-loop-i
-decreases-loop-i l = length l.starts - l.i
+abbrev pub invariant-loop-r : goal.invariant-loop-r
+invariant-loop-r l =
+    let left = rest l.r-iterator in
+    let all = spans_of l.records in
+    (l.n + length left + length left ≤ length all + length all) × (l.n + length (all_given l.giving l.base left) ≡ length (all_given l.giving l.base all))

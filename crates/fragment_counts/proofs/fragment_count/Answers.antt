@@ -1,34 +1,27 @@
--- `fragment_counts::fragment_count` meets its contract: a case for each way to part. Assumes nothing.
-use Rattle.layouts.proofs.Bases.{count_bare, count_single, count_none, count_records, count_clips, count_gaps}
-use Rattle.spans.proofs.Columns.{length_spans}
-use Rattle.spans.specs.Spans.{spans}
+-- `fragment_counts::fragment_count` meets its contract: one fragment a record, or one for none. Assumes nothing.
+use Rattle.layouts.proofs.Bases.{count_none, count_records, count_clips}
+use Rattle.spans.proofs.Columns.{count_of}
+use Rattle.spans.specs.Records.{spans_of}
+use Rattle.spans.specs.declared.Span.{Span}
+use Rattle.fragment_rules.specs.declared.Parting.TheVariants.{EachRecord}
+use Rattle.layouts.specs.Given.{bases}
+use lib.ListN.{length}
+use mathlib.Core.List.{List, [], ◌∷◌}
+use mathlib.Core.Path.{◌≡◌, refl, sym, ◌∙◌}
 use native.Mathlib.Omega.{arith}
-use mathlib.Core.Path.{sym, ◌∙◌}
+use Prim.Native.Nat.{max}
 use Rattle.fragment_counts.proofs.fragment_count.Goals as goal
 
-pub returns-then-starts-eq0 : goal.returns-then-starts-eq0
-returns-then-starts-eq0 c =
-    rw c.in-EachRecord.is (count_none c.args.base (spans c.args.starts.now c.args.stops.now) (omega (arith, length_spans c.args.starts.now c.args.stops.now c.requires)))
+each : (base : Span) (rs : List Span) → max (length rs) 1 ≡ length (bases EachRecord base rs)
+each base [] = count_none base [] refl
+each base (r ∷ rs) = omega (arith, count_records base (r ∷ rs) (λ h. omega arith))
 
-pub count_gaps-requires : goal.count_gaps-requires
-count_gaps-requires c = c.requires
-
-pub returns-in-Bare : goal.returns-in-Bare
-returns-in-Bare c =
-    rw c.in-Bare.is (count_bare c.args.base (spans c.args.starts.now c.args.stops.now))
-
-pub returns-in-Single : goal.returns-in-Single
-returns-in-Single c =
-    rw c.in-Single.is (count_single c.args.base (spans c.args.starts.now c.args.stops.now))
-
-pub returns-else-starts-eq0 : goal.returns-else-starts-eq0
-returns-else-starts-eq0 c =
-    rw c.in-EachRecord.is (sym (length_spans c.args.starts.now c.args.stops.now c.requires) ∙ count_records c.args.base (spans c.args.starts.now c.args.stops.now) (λ h. c.if-starts-eq0.false (sym (length_spans c.args.starts.now c.args.stops.now c.requires) ∙ h)))
+pub returns-in-EachRecord : goal.returns-in-EachRecord
+returns-in-EachRecord c =
+    let s = c.args.records in
+    rw (c.in-EachRecord.is, c.max.ensures, c.len.ensures, ← count_of s) (each c.args.base (spans_of s))
 
 pub returns-in-EachClip : goal.returns-in-EachClip
 returns-in-EachClip c =
-    rw c.in-EachClip.is (sym (length_spans c.args.starts.now c.args.stops.now c.requires) ∙ count_clips c.args.base (spans c.args.starts.now c.args.stops.now))
-
-pub returns-in-EachGap : goal.returns-in-EachGap
-returns-in-EachGap c =
-    rw c.in-EachGap.is (c.count_gaps.ensures ∙ count_gaps c.args.base (spans c.args.starts.now c.args.stops.now))
+    let s = c.args.records in
+    rw c.in-EachClip.is (c.len-in-EachClip.ensures ∙ sym (count_of s) ∙ count_clips c.args.base (spans_of s))

@@ -1,15 +1,8 @@
-use Rattle.layouts.proofs.Rows.{rows_from}
 use Rattle.span_columns.proofs.Writing.{Filling}
 use Rattle.layouts.specs.Given.{all_given}
-use Rattle.spans.specs.Spans.{spans}
-use lib.ListN.{length}
-use Prim.Native.Nat.{◌-◌, ◌≤◌}
+use Rattle.spans.specs.Records.{spans_of, rest}
 use Rattle.span_columns.proofs.put_all.Given as goal
 
-abbrev pub invariant-loop-i : goal.invariant-loop-i
-invariant-loop-i l =
-    (l.i ≤ length l.starts)
-    × Filling (all_given l.giving l.base (spans l.starts l.stops)) l.initial.outs l.initial.oute l.outs l.oute l.at (all_given l.giving l.base (rows_from l.starts l.stops l.i))
-
-abbrev pub decreases-loop-i : goal.decreases-loop-i
-decreases-loop-i l = length l.starts - l.i
+abbrev pub invariant-loop-r : goal.invariant-loop-r
+invariant-loop-r l =
+    Filling (all_given l.giving l.base (spans_of l.records)) l.initial.starts l.initial.stops l.starts l.stops l.at (all_given l.giving l.base (rest l.r-iterator))

@@ -1,14 +1,8 @@
-use Rattle.layouts.proofs.Rows.{rows_from}
 use Rattle.span_columns.proofs.Writing.{Filling}
 use Rattle.layouts.specs.Fragments.{walk}
-use Rattle.spans.specs.Spans.{spans}
-use lib.ListN.{length}
-use Prim.Native.Nat.{◌-◌, ◌≤◌}
+use Rattle.spans.specs.Records.{spans_of, rest}
 use Rattle.span_columns.proofs.put_gaps.Given as goal
 
-abbrev pub invariant-loop-i : goal.invariant-loop-i
-invariant-loop-i l =
-    (l.i ≤ length l.starts) × Filling (walk l.initial.place l.end (spans l.starts l.stops)) l.initial.outs l.initial.oute l.outs l.oute l.at (walk l.place l.end (rows_from l.starts l.stops l.i))
-
-abbrev pub decreases-loop-i : goal.decreases-loop-i
-decreases-loop-i l = length l.starts - l.i
+abbrev pub invariant-loop-r : goal.invariant-loop-r
+invariant-loop-r l =
+    Filling (walk l.initial.place l.end (spans_of l.records)) l.initial.starts l.initial.stops l.starts l.stops l.at (walk l.place l.end (rest l.r-iterator))

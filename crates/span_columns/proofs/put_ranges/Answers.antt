@@ -1,50 +1,41 @@
--- `span_columns::put_ranges` meets its contract: what is left to write are the ranges of the records from row i on. Assumes nothing.
+-- `span_columns::put_ranges` meets its contract: what is left to write are the ranges of the records that are left. Assumes nothing.
 use mathlib.Core.List.{[], ◌∷◌}
-use Rattle.layouts.proofs.Rows.{row, rows_from, owned_at, owned_end}
-use Rattle.span_columns.proofs.Writing.{filling_start, filling_step, filling_end}
-use Rattle.spans.proofs.Columns.{length_spans}
+use Rattle.layouts.proofs.Rows.{owned_at, owned_end}
+use Rattle.span_columns.proofs.Writing.{filling_step, filling_end}
+use Rattle.spans.proofs.Columns.{count_of}
 use Rattle.layouts.specs.Layout.{owned}
 use Rattle.layouts.specs.Given.{given}
+use Rattle.spans.specs.Records.{rest}
 use Rattle.spans.specs.Spans.{span}
 use lib.ListN.{length}
 use native.Mathlib.Omega.{arith}
+use mathlib.Core.Path.{ap}
 use Prim.Native.Nat.{◌+◌}
-use borrow.Author.Rules.{rules}
 use Rattle.span_columns.proofs.put_ranges.Goals as goal
 
-pub loop-i-init : goal.loop-i-init
-loop-i-init c = (search rules, search rules, filling_start _ _ _)
+pub overflow_add-next : goal.overflow_add-next
+overflow_add-next c =
+    omega (arith, c.loop-r.invariant.0, c.piece_count.ensures.1, ap length c.in-Some.ensures.steps, count_of c.args.records, c.ranges.records)
 
-pub piece_count-requires : goal.piece_count-requires
-piece_count-requires c = tt
+pub put_span-done-requires : goal.put_span-done-requires
+put_span-done-requires c =
+    let i = c.loop-r.invariant in
+    omega (arith, i.1, ap length c.in-Some.ensures.steps, c.requires.starts_fit, c.requires.stops_fit, i.2.long_starts, i.2.long_stops)
 
-pub put_span-i-requires : goal.put_span-i-requires
-put_span-i-requires c =
-    let a = c.args in
-    let l = c.loop-i in
-    let r = c.requires.1 in
-    omega (arith, length_spans a.starts.now a.stops.now c.requires.0, r.starts_fit, r.stops_fit, l.invariant.2.long_starts, l.invariant.2.long_stops)
-
-pub loop-i-smaller : goal.loop-i-smaller
-loop-i-smaller c =
-    let a = c.args in
-    let l = c.loop-i in
-    omega (arith, c.put_span-i.ensures.after)
-
-pub loop-i-preserved : goal.loop-i-preserved
-loop-i-preserved c =
-    let a = c.args in
-    let l = c.loop-i in
-    let next = l.at + length (given a.giving a.base (row a.starts.now a.stops.now l.i)) in (
-      omega (arith, c.put_span-i.ensures.after),
-      omega (arith, c.put_span-i.ensures.after, c.piece_count.ensures.1),
-      rw (c.piece_count.ensures.0, c.put_span-i.ensures.after) (filling_step _ _ _ _ _ _ (span l.at next ∷ []) (owned (given a.giving a.base) next (rows_from a.starts.now a.stops.now (l.i + 1)))
-          (owned_at a.starts.now a.stops.now l.i c.requires.0 c.loop-i-test.true (given a.giving a.base) l.at) l.invariant.2
-          (rw (c.piece_count.ensures.0, c.put_span-i.ensures.after) at c.put_span-i.ensures)),
+pub loop-r-preserved : goal.loop-r-preserved
+loop-r-preserved c =
+    let l = c.loop-r in
+    let i = l.invariant in
+    let e = c.in-Some.ensures.steps in
+    let f = given c.args.giving c.args.base in
+    let n = c.piece_count.ensures.0 in
+    let next = l.at + length (f c.in-Some.r) in (
+      omega (arith, i.0, c.piece_count.ensures.1, ap length e),
+      omega (arith, i.1, c.put_span-done.ensures.after, ap length e),
+      rw n (filling_step _ _ _ _ _ _ (span l.at next ∷ []) (owned f next (rest c.next.new.self)) (owned_at e f l.at) i.2 (rw n at c.put_span-done.ensures)),
     )
 
 pub returns : goal.returns
 returns c =
-    let a = c.args in
-    let l = c.loop-i in
-    filling_end _ _ _ _ _ _ (owned_end a.starts.now a.stops.now l.i c.requires.0 c.loop-i-test.false (given a.giving a.base) l.at) l.invariant.2
+    let l = c.loop-r in
+    filling_end _ _ _ _ _ _ (owned_end c.in-None.ensures.steps.0 (given c.args.giving c.args.base) l.at) l.invariant.2
