@@ -1,11 +1,10 @@
 // Whether a base is let in to a run that goes on: refusal 1 (`is_right`), then 4, 6, 3, 5 (`judge`). There are tests only, and nothing is written.
 #![tactic(auto)]
 
-ghost use Rattle.std.specs.Prelude.{◌≡◌, ◌||◌, ℕ, ◌-◌, ◌≤◌, ◌<◌, ltb, length, get_or};
+ghost use Rattle.std.specs.Prelude.{◌≡◌, ℕ, ◌-◌, ◌≤◌, ◌<◌, ltb, length, get_or};
 ghost use Rattle.rules.specs.Bases.{in_order, judge};
-ghost use Rattle.least.specs.Fours.{is_ended};
 ghost use Rattle.queue.specs.Ring.{Fair};
-ghost use Rattle.admit.specs.Right.{measured, named, heads_named, slots_named, right};
+ghost use Rattle.admit.specs.Right.{measured, named, head_named, heads_named, slots_named, right};
 ghost use Rattle.admit.specs.Gates.{lengths_of, last_of, judged_of};
 
 use queue::Ring;
@@ -72,15 +71,16 @@ impl Streams<'_> {
     }
 
     // Whether stream k's head names a row of it, or the stream has ended.
+    #[tactic(auto, unfolding(crate::specs::Right::named))]
     fn is_head_named(self, k: usize) -> bool
-        requires { k < 8 }
-        ensures { result ≡ is_ended (get_or self.entry.ended.now k 0) || ltb (get_or self.entry.row.now k 0)
-            (get_or self.entry.to.now k 0 - get_or self.entry.from.now k 0) }
+        requires { (k < self.count) × (self.count ≤ 8) }
+        ensures { result ≡ head_named self.entry.count self.entry.ended.now self.entry.row.now self.entry.from.now self.entry.to.now k }
     {
         least::has_ended(self.ended[k]) || self.is_row(k, self.row[k])
     }
 
     // Whether each head of a stream that has not ended names a row of its stream.
+    #[tactic(auto, using(basics::proofs::EdgeLaws::upto_pass), unfolding(crate::specs::Right::heads_named))]
     fn heads_named(self) -> bool
         requires { self.count ≤ 8 }
         ensures { result ≡ heads_named self.entry.count self.entry.ended.now self.entry.row.now self.entry.from.now self.entry.to.now }
@@ -120,6 +120,7 @@ fn follows(stage: Stage, b: Base) -> bool
 }
 
 // 4, 6, 3, 5, in this order.
+#[tactic(auto, using(crate::proofs::JudgeLaws::judge_by))]
 pub fn judge(lengths: &[u64], stage: Stage, b: Base) -> Result<(), Refusal>
     ensures { result ≡ judged_of (judge (lengths_of lengths.now) (last_of stage) b) }
 {

@@ -1,46 +1,46 @@
 -- Laws of a check of names, one name at a time. Assumes nothing.
 use Prim.Native.Nat.{ℕ, ◌+◌, ◌-◌, ◌≤◌, ◌<◌}
-use mathlib.Core.Path.{◌≡◌, refl, ◌∙◌}
+use mathlib.Core.Path.{◌≡◌, refl, sym, ◌∙◌}
+use Rattle.std.specs.Prelude.{Some, None, Ok, Err}
 use mathlib.Core.List.{List}
-use mathlib.Core.Bool.{Bool, true, false, cond, ◌&&◌}
+use mathlib.Core.Bool.{Bool, true, false, cond, ◌&&◌, true≢false}
 use native.Mathlib.Omega.{arith}
+use native.Mathlib.Decide.{dec_lt}
 use native.Mathlib.Nat.{zero-add}
 use lib.ListN.{length, get_or, drop, length-drop}
-use lib.Dec.{leb}
-use borrow.Author.Tests.{le-leb, lt-leb, eq-eqb, ne_eqb}
+use lib.Dec.{leb, eqb}
+use borrow.Author.Tests.{le-leb, lt-leb, eq-eqb, ne_eqb, eqb-true}
 use Rattle.fields.specs.Names.{part, within, names, number_in}
 use Rattle.fields.proofs.Both.{and_no}
 use Rattle.fields.proofs.Scan.{rest_none}
-use Rattle.fields.proofs.Naming.{within_even, within_from, within_low, within_high, names_cons, names_length, part_length}
-use Rattle.chroms.specs.Check.{absent, all_named, fine_at, check_of, found_of, lookup_number}
-use Rattle.chroms.specs.declared.Check.TheVariants.{Fine, Sizes, Names}
-use Rattle.chroms.specs.declared.Lookup.TheVariants.{Number, Refused}
+use Rattle.fields.proofs.Naming.{within_even, within_from, names_cons, names_length}
+use Rattle.chroms.specs.Check.{all_named, fine_at, check_of, found_of, lookup_number}
+use Rattle.rules.specs.declared.Unbegun.TheVariants.{Sizes, Names}
 
-module _ (text from to : List ℕ) (ok : within (length text) from to ≡ true) where
-  -- the name with the number k
-  module _ (k : ℕ) (h : k < length from) where
-    long : length (part (get_or from k 0) (get_or to k 0) text) ≡ get_or to k 0 - get_or from k 0
-    long = part_length text (get_or from k 0) (get_or to k 0) (within_low (length text) from to k h ok) (within_high (length text) from to k h ok)
+-- the name with the number k
+module _ (text from to : List ℕ) (k : ℕ) (name : List ℕ) (is : name ≡ part (get_or from k 0) (get_or to k 0) text) where
+  pub fine_empty : length name < 1 → false ≡ fine_at text from to k
+  fine_empty e = rw (← is, lt-leb 1 (length name) e)
 
-    behind : length (names text (drop (k + 1) from) (drop (k + 1) to)) ≡ length from - (k + 1)
-    behind = names_length (length text) text (drop (k + 1) from) (drop (k + 1) to) (within_from (length text) from to (k + 1) (omega arith) ok) ∙ length-drop (k + 1) from
+  pub fine_long : 255 < length name → false ≡ fine_at text from to k
+  fine_long e = rw (← is, and_no (leb 1 (length name)) (leb (length name) 255) (lt-leb (length name) 255 e))
 
-    pub fine_empty : get_or to k 0 - get_or from k 0 ≡ 0 → fine_at text from to k ≡ false
-    fine_empty e = rw (lt-leb 1 (length (part (get_or from k 0) (get_or to k 0) text)) (omega (arith, long)))
+  pub fine_found : within (length text) from to ≡ true → k < length from → 1 ≤ length name → length name ≤ 255 →
+      {found count : ℕ} → found ≡ (k + 1) + number_in (names text (drop (k + 1) from) (drop (k + 1) to)) name → count ≡ length from → eqb found count ≡ fine_at text from to k
+  fine_found ok h some few {found} {count} f e =
+      let behind : length (names text (drop (k + 1) from) (drop (k + 1) to)) ≡ length from - (k + 1) =
+      names_length (length text) text (drop (k + 1) from) (drop (k + 1) to) (within_from (length text) from to (k + 1) (omega arith) ok) ∙ length-drop (k + 1) from in
+      rw (← is, le-leb 1 (length name) some, le-leb (length name) 255 few) (go (number_in (names text (drop (k + 1) from) (drop (k + 1) to)) name) (length (names text (drop (k + 1) from) (drop (k + 1) to))) (omega arith) (omega (arith, behind)))
+    where
+      go : (i n : ℕ) → found ≡ k + 1 + i → count ≡ k + 1 + n → eqb found count ≡ eqb i n
+      go i n p q = by_test (eqb i n) refl
+        where
+          by_test : (t : Bool) → eqb i n ≡ t → eqb found count ≡ t
+          by_test true r = eq-eqb found count (omega (arith, p, q, eqb-true i n r))
+          by_test false r = ne_eqb found count (λ u. true≢false (sym (eq-eqb i n (omega (arith, p, q, u))) ∙ r))
 
-    pub fine_long : 255 < get_or to k 0 - get_or from k 0 → fine_at text from to k ≡ false
-    fine_long e = rw (and_no (leb 1 (length (part (get_or from k 0) (get_or to k 0) text))) (leb (length (part (get_or from k 0) (get_or to k 0) text)) 255) (lt-leb (length (part (get_or from k 0) (get_or to k 0) text)) 255 (omega (arith, long))))
-
-    module _ (some : get_or to k 0 - get_or from k 0 ≡ 0 → ⊥) (few : get_or to k 0 - get_or from k 0 ≤ 255)
-        (found : ℕ) (is : found ≡ (k + 1) + number_in (names text (drop (k + 1) from) (drop (k + 1) to)) (part (get_or from k 0) (get_or to k 0) text)) where
-      sized : fine_at text from to k ≡ absent (part (get_or from k 0) (get_or to k 0) text) (names text (drop (k + 1) from) (drop (k + 1) to))
-      sized = rw (le-leb 1 (length (part (get_or from k 0) (get_or to k 0) text)) (omega (arith, long)), le-leb (length (part (get_or from k 0) (get_or to k 0) text)) 255 (omega (arith, long)))
-
-      pub fine_alone : found ≡ length from → fine_at text from to k ≡ true
-      fine_alone e = sized ∙ eq-eqb (number_in (names text (drop (k + 1) from) (drop (k + 1) to)) (part (get_or from k 0) (get_or to k 0) text)) (length (names text (drop (k + 1) from) (drop (k + 1) to))) (omega (arith, behind))
-
-      pub fine_twice : (found ≡ length from → ⊥) → fine_at text from to k ≡ false
-      fine_twice e = sized ∙ ne_eqb (number_in (names text (drop (k + 1) from) (drop (k + 1) to)) (part (get_or from k 0) (get_or to k 0) text)) (length (names text (drop (k + 1) from) (drop (k + 1) to))) (λ q. e (omega (arith, q, behind)))
+-- what the check of a name meets
+pub ruleset fines = (fine_empty, fine_long, fine_found)
 
 -- the names before k are fine, so the rest decides
 pub record Checking (text from to : List ℕ) (k : ℕ) : Type 0 where
@@ -68,35 +68,35 @@ module _ {text from to : List ℕ} {k : ℕ} (v : Checking text from to k) where
 
 -- each way for a list to be refused, and to be fine
 module _ (text from to : List ℕ) where
-  pub check_outside : within (length text) from to ≡ false → check_of text from to ≡ Sizes
+  pub check_outside : within (length text) from to ≡ false → check_of text from to ≡ Err Sizes
   unfolding check_of
   check_outside e = rw e
 
   module _ (ok : within (length text) from to ≡ true) where
-    pub check_none : length from ≡ 0 → check_of text from to ≡ Sizes
+    pub check_uncounted : (1 ≤ length from → length from ≤ 256 → ⊥) → check_of text from to ≡ Err Sizes
     unfolding check_of
-    check_none e = rw (ok, e)
+    check_uncounted h = go (dec_lt (length from) 1)
+      where
+        go : Dec (length from < 1) → check_of text from to ≡ Err Sizes
+        go (yes k) = rw (ok, lt-leb 1 (length from) k)
+        go (no k) = rw (ok, and_no (leb 1 (length from)) (leb (length from) 256) (lt-leb (length from) 256 (omega (arith, h))))
 
-    pub check_many : 256 < length from → check_of text from to ≡ Sizes
-    unfolding check_of
-    check_many e = rw (ok, and_no (leb 1 (length from)) (leb (length from) 256) (lt-leb (length from) 256 e))
-
-    module _ (some : length from ≡ 0 → ⊥) (few : length from ≤ 256) where
-      judged : check_of text from to ≡ cond (all_named (names text from to)) Fine Names
+    module _ (some : 1 ≤ length from) (few : length from ≤ 256) where
+      judged : check_of text from to ≡ cond (all_named (names text from to)) (Ok tt) (Err Names)
       unfolding check_of
-      judged = rw (ok, le-leb 1 (length from) (omega arith), le-leb (length from) 256 few)
+      judged = rw (ok, le-leb 1 (length from) some, le-leb (length from) 256 few)
 
-      pub check_fine : all_named (names text from to) ≡ true → check_of text from to ≡ Fine
+      pub check_fine : all_named (names text from to) ≡ true → check_of text from to ≡ Ok tt
       check_fine e = judged ∙ rw e
 
-      pub check_names : all_named (names text from to) ≡ false → check_of text from to ≡ Names
+      pub check_names : all_named (names text from to) ≡ false → check_of text from to ≡ Err Names
       check_names e = judged ∙ rw e
 
-  pub found_at : (name : List ℕ) (k : ℕ) → within (length text) from to ≡ true → k ≡ 0 + number_in (names text (drop 0 from) (drop 0 to)) name → found_of text from to name ≡ Number k
+  pub found_at : (name : List ℕ) (k : ℕ) → within (length text) from to ≡ true → k ≡ 0 + number_in (names text (drop 0 from) (drop 0 to)) name → found_of text from to name ≡ Some k
   unfolding found_of
   found_at name k ok e = rw (ok, e, zero-add)
 
-  pub found_refused : (name : List ℕ) → within (length text) from to ≡ false → found_of text from to name ≡ Refused
+  pub found_refused : (name : List ℕ) → within (length text) from to ≡ false → found_of text from to name ≡ None
   unfolding found_of
   found_refused name e = rw e
 
@@ -105,6 +105,9 @@ pub lookup_number_lem : (text from to name : List ℕ) → lookup_number (found_
 unfolding found_of
 lookup_number_lem text from to name = go (within (length text) from to) (number_in (names text from to) name)
   where
-    go : (c : Bool) (n : ℕ) → lookup_number (cond c (Number n) Refused) ≡ cond c 0 1
+    go : (c : Bool) (n : ℕ) → lookup_number (cond c (Some n) None) ≡ cond c 0 1
     go true n = refl
     go false n = refl
+
+-- what a check of a list meets
+pub ruleset checks = (checking_start, checking_bad, checking_next, checking_end)

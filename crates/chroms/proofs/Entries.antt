@@ -1,6 +1,7 @@
 -- What the bytes of a chromosome line say of it, field by field. Assumes nothing.
 use Prim.Native.Nat.{ℕ, ◌+◌, ◌<◌}
 use mathlib.Core.Path.{◌≡◌, refl, sym, ap, ◌∙◌}
+use Rattle.std.specs.Prelude.{Option, Some, None}
 use mathlib.Core.List.{List, [], ◌∷◌}
 use native.Mathlib.Omega.{arith}
 use lib.ListN.{length, get_or, drop}
@@ -9,13 +10,12 @@ use Rattle.fields.specs.Number.{good, bad, number_of}
 use Rattle.fields.specs.Table.{read_text}
 use borrow.Author.Tests.{eq-eqb}
 use Rattle.fields.specs.Scan.{line_at, field_at, next_line, number_at, FieldTo}
-use Rattle.fields.specs.declared.Number.TheVariants.{Value, Bad}
+use Rattle.fields.specs.declared.Number.{Number}
 use Rattle.fields.proofs.Lines.{further, field_to, fields_are, fields_none, fields_out, fields_tab, next_none, next_lf, next_tab, stops_lf, stops_tab}
 use Rattle.fields.proofs.Numbers.{number_bad, number_good, number_to}
 use Rattle.chroms.specs.Entry.{unknown, entry_from, entry_of, list_found, ReadsLine, gives, leads}
 use Rattle.chroms.specs.declared.Entry.{Entry}
 use Rattle.chroms.specs.declared.Line.{Line}
-use Rattle.chroms.specs.declared.Line.TheVariants.{Is, Not}
 
 -- a bad length is malformed whatever follows it
 unsized : (at : ℕ) (name len : List ℕ) (fs : List (List ℕ)) → number_of len ≡ bad → entry_from at (name ∷ len ∷ fs) ≡ bad
@@ -29,15 +29,15 @@ module _ {text : List ℕ} {at a : ℕ} (f : FieldTo text at a) where
   unfolding entry_of
   alone e = rw (e, f.ends)
 
-  pub one_none : a ≡ length text → ReadsLine text at (Is (record { from = at; to = a; len = unknown }) a)
+  pub one_none : a ≡ length text → ReadsLine text at (Some (record { entry = record { from = at; to = a; len = unknown }; next = a }))
   one_none h = record { line = alone (fields_none f h); next = sym (next_none f h) }
 
-  pub one_lf : a < length text → (get_or text a 0 ≡ 9 → ⊥) → ReadsLine text at (Is (record { from = at; to = a; len = unknown }) (a + 1))
+  pub one_lf : a < length text → (get_or text a 0 ≡ 9 → ⊥) → ReadsLine text at (Some (record { entry = record { from = at; to = a; len = unknown }; next = a + 1 }))
   one_lf h n = record { line = alone (fields_out f h n); next = sym (next_lf f h (stops_lf f h n)) }
 
   -- a tab follows it
   module _ (h : a < length text) (tab : get_or text a 0 ≡ 9) where
-    pub two_bad : number_at text (a + 1) ≡ Bad → ReadsLine text at Not
+    pub two_bad : number_at text (a + 1) ≡ None → ReadsLine text at None
     unfolding entry_of
     two_bad e =
         let g = field_to text (a + 1) (omega arith) in
@@ -46,39 +46,42 @@ module _ {text : List ℕ} {at a : ℕ} (f : FieldTo text at a) where
           next = refl;
         }
 
-    -- a length that ends at b
-    module _ (v b : ℕ) (e : number_at text (a + 1) ≡ Value v b) where
-      pub length_to : FieldTo text (a + 1) b
-      length_to = number_to text (a + 1) v b e (omega arith)
+    -- a length
+    module _ {n : Number} (e : number_at text (a + 1) ≡ Some n) where
+      pub length_to : FieldTo text (a + 1) n.end
+      length_to = number_to text (a + 1) n.value n.end e (omega arith)
 
-      known : cut 9 (line_at text (a + 1)) ≡ field_at text (a + 1) ∷ [] → entry_of at (line_at text at) ≡ good (record { from = at; to = a; len = v })
+      known : cut 9 (line_at text (a + 1)) ≡ field_at text (a + 1) ∷ [] → entry_of at (line_at text at) ≡ good (record { from = at; to = a; len = n.value })
       unfolding entry_of
-      known k = rw (fields_tab f h tab, k, number_good text (a + 1) v b e, f.ends)
+      known k = rw (fields_tab f h tab, k, number_good text (a + 1) n.value n.end e, f.ends)
 
-      pub two_none : b ≡ length text → ReadsLine text at (Is (record { from = at; to = a; len = v }) b)
+      pub two_none : n.end ≡ length text → ReadsLine text at (Some (record { entry = record { from = at; to = a; len = n.value }; next = n.end }))
       two_none k = record { line = known (fields_none length_to k); next = sym (next_tab f h tab ∙ next_none length_to k) }
 
-      pub two_lf : b < length text → get_or text b 0 ≡ 10 → ReadsLine text at (Is (record { from = at; to = a; len = v }) (b + 1))
+      pub two_lf : n.end < length text → get_or text n.end 0 ≡ 10 → ReadsLine text at (Some (record { entry = record { from = at; to = a; len = n.value }; next = n.end + 1 }))
       two_lf k q = record { line = known (fields_out length_to k (λ t. omega arith)); next = sym (next_tab f h tab ∙ next_lf length_to k q) }
 
-      pub three : b < length text → (get_or text b 0 ≡ 10 → ⊥) → ReadsLine text at Not
+      pub three : n.end < length text → (get_or text n.end 0 ≡ 10 → ⊥) → ReadsLine text at None
       unfolding entry_of
       three k q =
           let t = stops_tab length_to k q in
-          let g = field_to text (b + 1) (omega arith) in
+          let g = field_to text (n.end + 1) (omega arith) in
           record { line = rw (fields_tab f h tab, fields_tab length_to k t, fields_are g); next = refl }
 
+-- each way for a line to end
+pub ruleset lines = (one_none, one_lf, two_bad, two_none, two_lf, three)
+
 -- what a line that was read tells
-module _ {text : List ℕ} {at : ℕ} {r : Line} (g : ReadsLine text at r) where
-  pub line_not : r ≡ Not → entry_of at (line_at text at) ≡ bad
+module _ {text : List ℕ} {at : ℕ} {r : Option Line} (g : ReadsLine text at r) where
+  pub line_not : r ≡ None → entry_of at (line_at text at) ≡ bad
   line_not q = g.line ∙ ap gives q
 
-  module _ {e : Entry} {next : ℕ} (q : r ≡ Is e next) where
+  module _ {e : Entry} {next : ℕ} (q : r ≡ Some (record { entry = e; next = next })) where
     pub line_is : entry_of at (line_at text at) ≡ good e
     line_is = g.line ∙ ap gives q
 
     pub line_next : next ≡ next_line text at
-    line_next = sym (ap (λ (l : Line). leads l (next_line text at)) q) ∙ g.next
+    line_next = sym (ap (λ (l : Option Line). leads l (next_line text at)) q) ∙ g.next
 
 -- columns that are equally long are filled
 pub list_read : (text : List ℕ) (a b c : ℕ) → b ≡ a → c ≡ a → list_found text a b c ≡ read_text entry_of a text

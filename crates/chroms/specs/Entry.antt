@@ -1,12 +1,11 @@
 -- What a chromosome line gives, and what a chromosome list does.
-use Rattle.std.specs.Prelude.{ℕ, ◌+◌, ◌≡◌, List, [], ◌∷◌, ◌&&◌, length, eqb}
+use Rattle.std.specs.Prelude.{ℕ, ◌+◌, ◌≡◌, List, [], ◌∷◌, ◌&&◌, length, eqb, Option, Some, None}
 use Rattle.fields.specs.Cut.{fields}
 use Rattle.fields.specs.Number.{Read, good, bad, number_of}
 use Rattle.fields.specs.Table.{Found, read_text, tested}
 use Rattle.fields.specs.Scan.{line_at, next_line}
 use Rattle.chroms.specs.declared.Entry.{Entry}
 use Rattle.chroms.specs.declared.Line.{Line}
-use Rattle.chroms.specs.declared.Line.TheVariants.{Is, Not}
 
 -- a length that is not known: no stop lies beyond it
 abbrev pub unknown : ℕ
@@ -45,14 +44,14 @@ abbrev pub len_of : Entry → ℕ
 len_of e = e.len
 
 -- what a line that was read gives, and where the next one starts
-abbrev pub gives : Line → Read Entry
-gives (Is e next) = good e
-gives Not = bad
+abbrev pub gives : Option Line → Read Entry
+gives (Some l) = good l.entry
+gives None = bad
 
-abbrev pub leads : Line → ℕ → ℕ
-leads (Is e next) other = next
-leads Not other = other
+abbrev pub leads : Option Line → ℕ → ℕ
+leads (Some l) other = l.next
+leads None other = other
 
-pub record ReadsLine (text : List ℕ) (at : ℕ) (r : Line) : Type 0 where
+pub record ReadsLine (text : List ℕ) (at : ℕ) (r : Option Line) : Type 0 where
   pub line : entry_of at (line_at text at) ≡ gives r
   pub next : leads r (next_line text at) ≡ next_line text at

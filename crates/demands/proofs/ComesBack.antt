@@ -35,14 +35,13 @@ use Rattle.admit.specs.Right.{named}
 use Rattle.admit.proofs.RightLaws.{named_place}
 use Rattle.runs.specs.declared.Run.{Run}
 use Rattle.runs.specs.declared.Given.{Given}
-use Rattle.runs.specs.declared.start.Begins.{Begins}
-use Rattle.runs.specs.declared.start.Begins.TheVariants.{Begun}
 use Rattle.runs.specs.View.{heads_of, run_with, left_by, run_of, over_of, stage_of, ring_of}
 use Rattle.pulls.specs.Pulls.{drawn_to, Found, Lent, lent}
 use Rattle.step.specs.Settle.{ended_by, run_by, Going}
 use Rattle.step.specs.Give.{opened_by, Gives}
 use Rattle.runs.specs.Comes.{right_of, given_of}
-use Rattle.runs.specs.Start.{Plan, run_from, start_of, Lends}
+use Rattle.runs.specs.Start.{Plan, fresh_run, Lends}
+use Rattle.runs.proofs.Starting.{begun_is}
 use Rattle.runs.proofs.ViewLaws.{eight_at}
 use Rattle.runs.proofs.MarkLaws.{stage_back}
 use Rattle.runs.proofs.StartLaws.{begun_right}
@@ -257,18 +256,19 @@ calls_return (unheeded answers g l' gives u k) ok whole = returns_on gives ok wh
 -- A run that begins by p, and its calls. Where the streams' rows begin stands in eight places, as the array's type says; the lengths and the queue's
 -- memory are those of the start, and with the answer rows that one more call lends they are as much as the sizes ask.
 module _ (p : Plan) (lengths : List ℕ) (bs : List Base) (os : List Came) (k : Runs p lengths bs os) (places : length p.from ≡ 8) (answers : List (List ℕ)) (d : Lends p lengths (lent k.cells answers)) where
-  begun_blameless : Blameless p.cols lengths (start_of p).run k.cells
-  begun_blameless rows enough = begun_right p k.begun lengths (lent k.cells rows) (record { listed = d.listed; slots = d.slots; answer = rw k.begun at enough })
+  begun_blameless : Blameless p.cols lengths k.first k.cells
+  begun_blameless rows enough =
+      begun_right p k.begun lengths (lent k.cells rows) (record { listed = d.listed; slots = d.slots; answer = rw (ap (λ (x : Run). x.settings.room) (begun_is p k.begun).1) at enough })
 
-  begun_whole : Whole (start_of p).run
-  begun_whole = rw k.begun (λ z. record { chrom = refl; start = refl; stop = refl; row = refl; ended = refl; next = places })
+  begun_whole : Whole k.first
+  begun_whole = rw ((begun_is p k.begun).1) (λ z. record { chrom = refl; start = refl; stop = refl; row = refl; ended = refl; next = places })
 
-  begun_returns : Returns p.cols lengths (start_of p).run k.last k.left
+  begun_returns : Returns p.cols lengths k.first k.last k.left
   begun_returns = calls_return k.calls begun_blameless begun_whole
 
   -- "its start and every call leave it with the sizes given at its start"
-  pub calls_sized : SizedAs (run_from Begun p) k.last
-  calls_sized = subst (λ (x : Begins). SizedAs (run_from x p) k.last) k.begun begun_returns.sized
+  pub calls_sized : SizedAs (fresh_run p.settings p.from p.to) k.last
+  calls_sized = subst (λ (x : Run). SizedAs x k.last) (begun_is p k.begun).1 begun_returns.sized
 
   -- "and naming, in heads and queue, dead slots too where these are looked at, only lent streams and rows"
   pub calls_right : right_of p.cols lengths k.last (lent k.left answers) ≡ true

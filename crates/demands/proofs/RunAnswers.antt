@@ -24,13 +24,13 @@ use Rattle.admit.specs.Fits.{Told, Fits}
 use Rattle.admit.proofs.RightLaws.{right_fits, fits_right}
 use Rattle.runs.specs.declared.Run.{Run}
 use Rattle.runs.specs.declared.Given.{Given}
-use Rattle.runs.specs.declared.start.Begins.{Begins}
 use Rattle.runs.specs.View.{heads_of, run_of, ring_of, stage_of}
 use Rattle.pulls.specs.Pulls.{drawn_to, Lent, lent}
 use Rattle.step.specs.Settle.{run_by}
 use Rattle.step.specs.Give.{opened_by}
 use Rattle.runs.specs.Comes.{lens_of, right_of, given_of}
-use Rattle.runs.specs.Start.{Plan, run_from}
+use Rattle.runs.specs.Start.{Plan}
+use Rattle.runs.proofs.Starting.{begun_is}
 use Rattle.runs.proofs.StartLaws.{begun_fresh}
 use Rattle.demands.specs.Calls.{Unheeded, Came, Calls, none, call, unheeded, job_of, Runs}
 use Rattle.demands.proofs.Shown.{Shows}
@@ -119,4 +119,4 @@ module _ (s : Cols) (lengths : List ℕ) where
 pub run_answers : (p : Plan) (lengths : List ℕ) (bs : List Base) (os : List Came) → Runs p lengths bs os → Pairs Shows (answers (job_of p lengths) bs) os
 run_answers p lengths bs os k =
     subst (λ (x : rules.Run). Pairs Shows (replies (lengths_of lengths) p.settings.room x bs) os) (begun_fresh p k.begun k.cells)
-    (calls_shown p.cols lengths p.settings.room (ap (λ (x : Begins). (run_from x p).settings.room) k.begun) k.calls)
+    (calls_shown p.cols lengths p.settings.room (ap (λ (x : Run). x.settings.room) (begun_is p k.begun).1) k.calls)

@@ -1,5 +1,5 @@
 -- "runs that come back, with their columns, queue and all else lent but the answer rows, as the last call left them"
-use Rattle.std.specs.Prelude.{◌≡◌, true, List, [], ◌∷◌, ◌++◌, map, ℕ, ◌≤◌, length, get_or, take, drop}
+use Rattle.std.specs.Prelude.{◌≡◌, true, List, [], ◌∷◌, ◌++◌, map, ℕ, ◌≤◌, length, get_or, take, drop, Ok}
 use Rattle.rules.specs.declared.Base.{Base}
 use Rattle.rules.specs.declared.Refusal.TheVariants.{Sizes}
 use Rattle.rules.specs.Offered.{Offer}
@@ -15,7 +15,6 @@ use Rattle.queue.specs.Deeds.{answer_row}
 use Rattle.admit.specs.Gates.{lengths_of}
 use Rattle.runs.specs.declared.Run.{Run}
 use Rattle.runs.specs.declared.Given.{Given}
-use Rattle.runs.specs.declared.start.Begins.TheVariants.{Begun}
 use Rattle.pulls.specs.Pulls.{Lent, lent}
 use Rattle.step.specs.Give.{Gives}
 use Rattle.runs.specs.Comes.{right_of}
@@ -51,11 +50,12 @@ job_of p lengths = record { lengths = lengths_of lengths; streams = streams_of p
 
 -- the calls of a run that begins by the plan p
 pub record Runs (p : Plan) (lengths : List ℕ) (bs : List Base) (os : List Came) : Type 0 where
-  pub begun : (start_of p).begins ≡ Begun
+  pub first : Run
+  pub begun : start_of p ≡ Ok first
   pub cells : Cells
   pub last : Run
   pub left : Cells
-  pub calls : Calls p.cols lengths (start_of p).run cells bs os last left
+  pub calls : Calls p.cols lengths first cells bs os last left
 
 -- ---- what came out
 

@@ -4,12 +4,13 @@ use mathlib.Core.Path.{◌≡◌, refl, sym, ap, ◌∙◌}
 use mathlib.Core.List.{List, [], ◌∷◌}
 use mathlib.Core.Bool.{Bool, true, false, cond, ◌&&◌, true≢false}
 use native.Mathlib.Omega.{arith}
-use native.Mathlib.Nat.{add-zero, add_assoc}
 use lib.ListN.{length, get_or, drop, length-take, length-drop}
 use lib.Dec.{leb, eqb}
-use borrow.Author.Tests.{le-leb, lt-leb, leb-true, eq-eqb, ne_eqb}
+use lib.Pointwise.{pointwise}
+use Rattle.std.specs.Prelude.{IsTrue, ◌↔◌}
+use borrow.Author.Tests.{le-leb, leb-true}
 use Rattle.fields.specs.Names.{part, within, names, same, number_in}
-use Rattle.fields.proofs.Both.{and_left, and_right, and_no}
+use Rattle.fields.proofs.Both.{and_left, and_right}
 use Rattle.fields.proofs.Scan.{rest_cons, rest_none}
 
 -- columns that are within are equally long
@@ -37,99 +38,27 @@ module _ (fs ts : List ℕ) (k : ℕ) (lf : k < length fs) (lt : k < length ts) 
   unfolding names
   names_cons text = rw (rest_cons fs k lf, rest_cons ts k lt)
 
--- what is left of the columns is within as they are
-pub record Within (n : ℕ) (fs ts : List ℕ) (k : ℕ) : Type 0 where
-  pub even : length fs ≡ length ts
-  pub inside : k ≤ length fs
-  pub rest : within n fs ts ≡ within n (drop k fs) (drop k ts)
+-- columns that are equally long are within where each name is
+each_within : (n : ℕ) (fs ts : List ℕ) → length fs ≡ length ts → ((k : ℕ) → k < length fs → (get_or fs k 0 ≤ get_or ts k 0) × (get_or ts k 0 ≤ n)) → within n fs ts ≡ true
+unfolding within
+each_within n [] [] e h = refl
+each_within n [] (t ∷ ts) e h = absurd (omega (arith, e))
+each_within n (f ∷ fs) [] e h = absurd (omega (arith, e))
+each_within n (f ∷ fs) (t ∷ ts) e h =
+    let here = h 0 (omega arith) in
+    rw (le-leb f t here.0, le-leb t n here.1) (each_within n fs ts (omega (arith, e)) (λ k l. h (suc k) (omega (arith, l))))
 
-pub within_start : (n : ℕ) (fs ts : List ℕ) → length ts ≡ length fs → Within n fs ts 0
-within_start n fs ts h = record { even = sym h; inside = omega arith; rest = refl }
-
-module _ {n : ℕ} {fs ts : List ℕ} {k : ℕ} (w : Within n fs ts k) where
-  pub within_end : length fs ≤ k → within n fs ts ≡ true
-  unfolding within
-  within_end h = w.rest ∙ rw (rest_none fs k (omega (arith, w.inside)), rest_none ts k (omega (arith, w.inside, w.even)))
-
-  module _ (lf : k < length fs) (lt : k < length ts) where
-    pub within_back : get_or ts k 0 < get_or fs k 0 → within n fs ts ≡ false
-    within_back h = w.rest ∙ within_cons fs ts k lf lt n ∙ rw (lt-leb (get_or fs k 0) (get_or ts k 0) h)
-
-    pub within_past : n < get_or ts k 0 → within n fs ts ≡ false
-    within_past h = w.rest ∙ within_cons fs ts k lf lt n ∙ rw (and_no (leb (get_or fs k 0) (get_or ts k 0)) (leb (get_or ts k 0) n) (lt-leb (get_or ts k 0) n h))
-
-    pub within_next : get_or fs k 0 ≤ get_or ts k 0 → get_or ts k 0 ≤ n → Within n fs ts (k + 1)
-    within_next h g = record {
-      even = w.even;
-      inside = omega arith;
-      rest = w.rest ∙ within_cons fs ts k lf lt n ∙ rw (le-leb (get_or fs k 0) (get_or ts k 0) h, le-leb (get_or ts k 0) n g);
-    }
-
--- a part, one byte at a time
-pub part_cons : (text : List ℕ) (f t : ℕ) → f < t → t ≤ length text → part f t text ≡ get_or text f 0 ∷ part (f + 1) t text
-part_cons text f t h g =
-    let e : t - f ≡ suc (t - (f + 1)) = omega arith in
-    rw (e, rest_cons text f (omega arith))
-
-pub part_none : (text : List ℕ) (f t : ℕ) → t ≤ f → part f t text ≡ []
-part_none text f t h =
-    let e : t - f ≡ 0 = omega arith in
-    rw e
-
+-- how long a part is
 pub part_length : (text : List ℕ) (f t : ℕ) → f ≤ t → t ≤ length text → length (part f t text) ≡ t - f
 part_length text f t h g = simp (length-take, length-drop) (omega arith)
 
--- same names are equally long
-same_even : (l m : List ℕ) → same l m ≡ true → length l ≡ length m
+-- two names are the same as two slices are equal
+same_slices : (l m : List ℕ) → same l m ≡ pointwise eqb l m
 unfolding same
-same_even [] [] h = refl
-same_even [] (b ∷ m) h = absurd (true≢false (sym h))
-same_even (a ∷ l) [] h = absurd (true≢false (sym h))
-same_even (a ∷ l) (b ∷ m) h = ap suc (same_even l m (and_right (eqb a b) (same l m) h))
-
-same_uneven : (l m : List ℕ) → (length l ≡ length m → ⊥) → same l m ≡ false
-same_uneven l m h = go (same l m) refl
-  where
-    go : (b : Bool) → same l m ≡ b → same l m ≡ false
-    go true e = absurd (h (same_even l m e))
-    go false e = e
-
-pub same_self : (l : List ℕ) → same l l ≡ true
-unfolding same
-same_self [] = refl
-same_self (a ∷ l) = rw (eq-eqb a a refl, same_self l)
-
--- what is left of two names is the same as they are
-pub record Alike (text : List ℕ) (f t : ℕ) (name : List ℕ) (i : ℕ) : Type 0 where
-  pub even : t - f ≡ length name
-  pub inside : i ≤ length name
-  pub rest : same (part f t text) name ≡ same (part (f + i) t text) (drop i name)
-
-pub alike_uneven : (text : List ℕ) (f t : ℕ) (name : List ℕ) → f ≤ t → t ≤ length text → (t - f ≡ length name → ⊥) → same (part f t text) name ≡ false
-alike_uneven text f t name h g e = same_uneven (part f t text) name (λ q. e (sym (part_length text f t h g) ∙ q))
-
-pub alike_start : (text : List ℕ) (f t : ℕ) (name : List ℕ) → t - f ≡ length name → Alike text f t name 0
-alike_start text f t name e = record { even = e; inside = omega arith; rest = rw add-zero }
-
-module _ {text : List ℕ} {f t : ℕ} {name : List ℕ} {i : ℕ} (w : Alike text f t name i) where
-  pub alike_end : length name ≤ i → same (part f t text) name ≡ true
-  unfolding same
-  alike_end h = w.rest ∙ rw (rest_none name i (omega (arith, w.inside)), part_none text (f + i) t (omega (arith, w.even)))
-
-  module _ (fits : t ≤ length text) (more : i < length name) where
-    step : same (part f t text) name ≡ eqb (get_or text (f + i) 0) (get_or name i 0) && same (part (f + i + 1) t text) (drop (i + 1) name)
-    unfolding same
-    step = w.rest ∙ rw (rest_cons name i more, part_cons text (f + i) t (omega (arith, w.even)) fits)
-
-    pub alike_other : (get_or text (f + i) 0 ≡ get_or name i 0 → ⊥) → same (part f t text) name ≡ false
-    alike_other h = step ∙ rw (ne_eqb (get_or text (f + i) 0) (get_or name i 0) h)
-
-    pub alike_next : get_or text (f + i) 0 ≡ get_or name i 0 → Alike text f t name (i + 1)
-    alike_next h = record {
-      even = w.even;
-      inside = omega arith;
-      rest = step ∙ rw (eq-eqb (get_or text (f + i) 0) (get_or name i 0) h, add_assoc f i 1);
-    }
+same_slices [] [] = refl
+same_slices [] (b ∷ m) = refl
+same_slices (a ∷ l) [] = refl
+same_slices (a ∷ l) (b ∷ m) = rw (same_slices l m)
 
 -- columns that are within are so from any number on
 pub within_from : (n : ℕ) (fs ts : List ℕ) (k : ℕ) → k ≤ length fs → within n fs ts ≡ true → within n (drop k fs) (drop k ts) ≡ true
@@ -153,6 +82,15 @@ module _ (n : ℕ) (fs ts : List ℕ) (k : ℕ) (h : k < length fs) (e : within 
 
   pub within_high : get_or ts k 0 ≤ n
   within_high = leb-true (get_or ts k 0) n (and_right (leb (get_or fs k 0) (get_or ts k 0)) (leb (get_or ts k 0) n) row_within)
+
+-- and where not each is, they are not
+pub within_if : (n : ℕ) (fs ts : List ℕ) (r : Bool) → length fs ≡ length ts → (IsTrue r ↔ ((k : ℕ) → k < length fs → (get_or fs k 0 ≤ get_or ts k 0) × (get_or ts k 0 ≤ n))) → r ≡ within n fs ts
+within_if n fs ts true e h = sym (each_within n fs ts e (h.0 refl))
+within_if n fs ts false e h = go (within n fs ts) refl
+  where
+    go : (t : Bool) → within n fs ts ≡ t → false ≡ t
+    go true q = h.1 (λ k l. (within_low n fs ts k l q, within_high n fs ts k l q))
+    go false q = refl
 
 -- as many names as rows of the columns
 pub names_length : (n : ℕ) (text fs ts : List ℕ) → within n fs ts ≡ true → length (names text fs ts) ≡ length fs
@@ -180,8 +118,14 @@ module _ {text fs ts : List ℕ} {first : ℕ} {name : List ℕ} {k : ℕ} (w : 
     unfolding number_in
     here = rw (names_cons fs ts k lf (omega (arith, w.even)) text)
 
-    pub seeking_found : same (part (get_or fs k 0) (get_or ts k 0) text) name ≡ true → k ≡ first + number_in (names text (drop first fs) (drop first ts)) name
-    seeking_found e = omega (arith, w.rest, rw e at here)
+    pub seeking_found : true ≡ pointwise eqb (part (get_or fs k 0) (get_or ts k 0) text) name → k ≡ first + number_in (names text (drop first fs) (drop first ts)) name
+    seeking_found e = omega (arith, w.rest, rw (same_slices (part (get_or fs k 0) (get_or ts k 0) text) name, ← e) at here)
 
-    pub seeking_next : same (part (get_or fs k 0) (get_or ts k 0) text) name ≡ false → Seeking text fs ts first name (k + 1)
-    seeking_next e = record { even = w.even; inside = omega arith; rest = omega (arith, w.rest, rw e at here) }
+    pub seeking_next : false ≡ pointwise eqb (part (get_or fs k 0) (get_or ts k 0) text) name → Seeking text fs ts first name (k + 1)
+    seeking_next e = record { even = w.even; inside = omega arith; rest = omega (arith, w.rest, rw (same_slices (part (get_or fs k 0) (get_or ts k 0) text) name, ← e) at here) }
+
+-- what bounds a name
+pub ruleset insides = (within_even, within_low, within_high)
+
+-- what a search for a name meets
+pub ruleset seeks = (seeking_start, seeking_found, seeking_next, seeking_end)

@@ -1,6 +1,7 @@
 -- Laws of `number_at`, by a walk over the digits of a field. Assumes nothing.
 use Prim.Native.Nat.{ℕ, suc, ◌+◌, ◌-◌, ◌*◌, ◌^◌, ◌≤◌, ◌<◌}
-use mathlib.Core.Path.{◌≡◌, refl, ap, ◌∙◌}
+use mathlib.Core.Path.{◌≡◌, refl, sym, ap, ◌∙◌}
+use Rattle.std.specs.Prelude.{Some, None}
 use mathlib.Core.List.{List, [], ◌∷◌}
 use mathlib.Core.Bool.{Bool, true, false, ◌&&◌}
 use native.Mathlib.Omega.{arith}
@@ -11,7 +12,7 @@ use lib.Dec.{leb}
 use borrow.Author.Tests.{le-leb, lt-leb}
 use Rattle.fields.specs.Number.{Read, good, bad, is_digit, digits, value, number_of}
 use Rattle.fields.specs.Scan.{in_field, field_at, number_read, number_at, Counting, FieldTo}
-use Rattle.fields.specs.declared.Number.TheVariants.{Value, Bad}
+use Rattle.fields.specs.declared.Number.{Number}
 use Rattle.fields.proofs.Both.{and_no}
 use Rattle.fields.proofs.Scan.{front_in, front_out, front_none, front_within, walk_start, walk_in, field_in}
 
@@ -22,6 +23,13 @@ module _ (b : ℕ) where
 
   pub digit_high : 57 < b → is_digit b ≡ false
   digit_high h = and_no (leb 48 b) (leb b 57) (lt-leb b 57 h)
+
+  pub digit_none : (48 ≤ b → b ≤ 57 → ⊥) → is_digit b ≡ false
+  digit_none h = go (dec_lt b 48)
+    where
+      go : Dec (b < 48) → is_digit b ≡ false
+      go (yes k) = digit_low k
+      go (no k) = digit_high (omega (arith, h))
 
   pub digit_is : 48 ≤ b → b ≤ 57 → is_digit b ≡ true
   digit_is h k = rw (le-leb 48 b h, le-leb b 57 k)
@@ -69,7 +77,7 @@ counting_start text from h = record {
   same_value = refl;
 }
 
-bad_at : (text : List ℕ) (from : ℕ) → number_of (field_at text from) ≡ bad → number_at text from ≡ Bad
+bad_at : (text : List ℕ) (from : ℕ) → number_of (field_at text from) ≡ bad → number_at text from ≡ None
 unfolding number_at
 bad_at text from h = rw h
 
@@ -77,6 +85,9 @@ module _ {text : List ℕ} {from i v : ℕ} (r : Counting text from i v) where
   -- k digits are a number below 10 ^ k
   pub counting_few : (k : ℕ) → i - from ≤ k → v < 10 ^ k
   counting_few k h = omega (arith, r.small, pow-le-pow_right {n = 10} (omega arith) h)
+
+  pub counting_fits : i < from + 19 → v < 1000000000000000000
+  counting_fits h = omega (arith, counting_few 18 (omega arith))
 
   -- the byte at i
   module _ (h : i < length text) where
@@ -94,25 +105,28 @@ module _ {text : List ℕ} {from i v : ℕ} (r : Counting text from i v) where
         same_value = r.same_value ∙ rw digit_in;
       }
 
-      pub number_large : 18446744073709551615 < v * 10 + (get_or text i 0 - 48) → number_at text from ≡ Bad
+      pub number_large : 18446744073709551615 < v * 10 + (get_or text i 0 - 48) → number_at text from ≡ None
       number_large k =
           let g = value_grows (field_at text (i + 1)) (v * 10 + (get_or text i 0 - 48)) in
           bad_at text from (bad_large (field_at text from) (omega (arith, counting_digit.same_value)))
 
     module _ (here : in_field (get_or text i 0) ≡ true) where
-      pub number_other : is_digit (get_or text i 0) ≡ false → number_at text from ≡ Bad
+      pub number_other : is_digit (get_or text i 0) ≡ false → number_at text from ≡ None
       unfolding digits
       number_other e = bad_at text from (bad_digits (field_at text from) (r.same_digits ∙ rw (front_in in_field text i h here, e)))
 
-      pub number_long : 20 ≤ i - from → number_at text from ≡ Bad
+      pub number_long : 20 ≤ i - from → number_at text from ≡ None
       number_long k = bad_at text from (bad_long (field_at text from) (omega (arith, r.walk.same_end, ap length (front_in in_field text i h here))))
+
+  pub counting_more : i < length text → 48 ≤ get_or text i 0 → get_or text i 0 ≤ 57 → {w : ℕ} → w ≡ v * 10 + (get_or text i 0 - 48) → Counting text from (i + 1) w
+  counting_more h low high e = rw e (counting_digit h low high)
 
   -- the field ends at i
   module _ (none : field_at text i ≡ []) where
-    pub number_none : i ≡ from → number_at text from ≡ Bad
+    pub number_none : i ≡ from → number_at text from ≡ None
     number_none e = bad_at text from (bad_short (field_at text from) (omega (arith, r.walk.same_end, ap length none)))
 
-    number_ends : 1 ≤ i - from → i - from ≤ 20 → v ≤ 18446744073709551615 → number_at text from ≡ Value v i
+    pub number_ends : 1 ≤ i - from → i - from ≤ 20 → v ≤ 18446744073709551615 → number_at text from ≡ Some (record { value = v; end = i })
     unfolding digits value number_at
     number_ends p q s =
         let len : from + length (field_at text from) ≡ i = omega (arith, r.walk.same_end, ap length none) in
@@ -121,38 +135,43 @@ module _ {text : List ℕ} {from i v : ℕ} (r : Counting text from i v) where
 
   -- the text ends at i, or a tab or LF stands there
   module _ (some : 1 ≤ i - from) (few : i - from ≤ 20) (fits : v ≤ 18446744073709551615) where
-    pub number_last : i ≡ length text → number_at text from ≡ Value v i
+    pub number_last : i ≡ length text → number_at text from ≡ Some (record { value = v; end = i })
     number_last h = number_ends (front_none in_field text i h) some few fits
 
-    pub number_before : i < length text → in_field (get_or text i 0) ≡ false → number_at text from ≡ Value v i
+    pub number_before : i < length text → in_field (get_or text i 0) ≡ false → number_at text from ≡ Some (record { value = v; end = i })
     number_before h e = number_ends (front_out in_field text i h e) some few fits
 
 -- no digit stands where the field starts
-pub number_empty : {text : List ℕ} {from i v : ℕ} → Counting text from i v → i ≡ from → (i < length text → is_digit (get_or text i 0) ≡ false) → number_at text from ≡ Bad
+pub number_empty : {text : List ℕ} {from i v : ℕ} → Counting text from i v → i ≡ from → (i < length text → is_digit (get_or text i 0) ≡ false) → number_at text from ≡ None
 number_empty {text} {from} {i} r e h = go (dec_lt i (length text))
   where
-    at_byte : i < length text → (t : Bool) → in_field (get_or text i 0) ≡ t → number_at text from ≡ Bad
+    at_byte : i < length text → (t : Bool) → in_field (get_or text i 0) ≡ t → number_at text from ≡ None
     at_byte k true q = number_other r k q (h k)
     at_byte k false q = number_none r (front_out in_field text i k q) e
 
-    go : Dec (i < length text) → number_at text from ≡ Bad
+    go : Dec (i < length text) → number_at text from ≡ None
     go (yes k) = at_byte k (in_field (get_or text i 0)) refl
     go (no k) = number_none r (front_none in_field text i (omega (arith, r.walk.inside))) e
 
+-- what a walk over digits meets
+pub ruleset counts = (counting_start, counting_fits, digit_none)
+
 -- what an answer says of the field
-read_bad : (stop : ℕ) (r : Read ℕ) → number_read stop r ≡ Bad → r ≡ bad
+read_bad : (stop : ℕ) (r : Read ℕ) → number_read stop r ≡ None → r ≡ bad
 read_bad stop (good v) e = let z : ◌≡◌ {A = ℕ} 0 1 = cc in absurd (omega arith)
 read_bad stop bad e = refl
 
-read_value : (stop : ℕ) (r : Read ℕ) (v b : ℕ) → number_read stop r ≡ Value v b → (r ≡ good v) × (b ≡ stop)
-read_value stop (good w) v b e = (cc, cc)
+read_value : (stop : ℕ) (r : Read ℕ) (v b : ℕ) → number_read stop r ≡ Some (record { value = v; end = b }) → (r ≡ good v) × (b ≡ stop)
+read_value stop (good w) v b e =
+    let q : ◌≡◌ {A = Number} (record { value = w; end = stop }) (record { value = v; end = b }) = cc in
+    (ap good (ap (λ (n : Number). n.value) q), sym (ap (λ (n : Number). n.end) q))
 read_value stop bad v b e = let z : ◌≡◌ {A = ℕ} 0 1 = cc in absurd (omega arith)
 
-pub number_bad : (text : List ℕ) (at : ℕ) → number_at text at ≡ Bad → number_of (field_at text at) ≡ bad
+pub number_bad : (text : List ℕ) (at : ℕ) → number_at text at ≡ None → number_of (field_at text at) ≡ bad
 unfolding number_at
 number_bad text at e = read_bad (at + length (field_at text at)) (number_of (field_at text at)) e
 
-module _ (text : List ℕ) (at v b : ℕ) (e : number_at text at ≡ Value v b) where
+module _ (text : List ℕ) (at v b : ℕ) (e : number_at text at ≡ Some (record { value = v; end = b })) where
   pub number_good : number_of (field_at text at) ≡ good v
   unfolding number_at
   number_good = (read_value (at + length (field_at text at)) (number_of (field_at text at)) v b e).0

@@ -31,6 +31,10 @@ module _ (p : ℕ → Bool) (text : List ℕ) (at : ℕ) where
   unfolding front
   front_none h = rw (rest_none text at h)
 
+  pub front_past : length text ≤ at → front p (drop at text) ≡ []
+  unfolding front
+  front_past h = rw (drop_of_length-le text {i = at} h)
+
 -- no start is longer than its list
 pub front_short : (p : ℕ → Bool) (l : List ℕ) → length (front p l) ≤ length l
 unfolding front
@@ -73,6 +77,9 @@ module _ {p : ℕ → Bool} {text : List ℕ} {from i : ℕ} (w : Walk p text fr
 
   pub walk_none : length text ≤ i → i ≡ from + length (front p (drop from text))
   walk_none h = omega (arith, w.same_end, w.inside, ap length (front_none p text i (omega (arith, w.inside))))
+
+-- what a walk over a line or a field meets
+pub ruleset walks = (walk_start, walk_in, walk_out, walk_none, front_out, front_past, tab_out, lf_out, field_in, lf_ends, line_in)
 
 -- a list whose bytes all pass is its own longest start
 module _ (p : ℕ → Bool) where

@@ -13,8 +13,9 @@ use borrow.Author.Tests.{eq-eqb, ne_eqb}
 use Rattle.fields.specs.Cut.{cut}
 use Rattle.fields.specs.Number.{Read, good, bad}
 use Rattle.fields.specs.Table.{End, whole, malformed, full, Found, passed, refused, ends, ahead, row_step, read_lines, read_text, answer, Fills}
-use Rattle.fields.specs.declared.Reading.{Reading}
-use Rattle.fields.specs.declared.Reading.TheVariants.{Whole, Malformed, Full, Refused}
+use Rattle.std.specs.Prelude.{Result, Ok, Err}
+use Rattle.fields.specs.declared.ReadError.{ReadError}
+use Rattle.fields.specs.declared.ReadError.TheVariants.{Malformed, Full, Refused}
 use Rattle.fields.specs.Scan.{in_line, line_at, next_line, Past}
 use Rattle.fields.proofs.Scan.{rest_cons, rest_none, front_in, front_out, front_within, lf_ends, line_in}
 use Rattle.fields.proofs.Lines.{lines_first, behind}
@@ -193,6 +194,8 @@ module _ (text : List ℕ) (at : ℕ) (h : at < length text) where
     pub past_none : (get_or text at 0 ≡ 35 → ⊥) → Past text at at
     past_none e = record { gone = λ q. absurd (omega (arith, q)); next = λ q. absurd (omega (arith, q)); stays = λ _. rw first (ne_eqb (get_or text at 0) 35 e) }
 
+pub ruleset pasts = (past_empty, past_comment, past_none)
+
 -- three columns a, b, c are being filled with f, g and h of the rows: the lines before `at` are read, with n rows
 pub record Filling {A : Type 0} (row : ℕ → List ℕ → Read A) (f g h : A → ℕ) (text a₀ b₀ c₀ a b c : List ℕ) (n at : ℕ) : Type 0 where
   pub reads : Reads row (length a₀) text n at
@@ -214,7 +217,7 @@ module _ {A : Type 0} (row : ℕ → List ℕ → Read A) (f g h : A → ℕ) wh
   }
 
 -- nothing is written
-pub fill_none : {A : Type 0} (f g h : A → ℕ) (found : Found A) (a b c : List ℕ) → found ≡ ends refused → Fills f g h found a b c Refused a b c
+pub fill_none : {A : Type 0} (f g h : A → ℕ) (found : Found A) (a b c : List ℕ) → found ≡ ends refused → Fills f g h found a b c (Err Refused) a b c
 fill_none f g h found a b c e = record { answered = rw e; first = rw e; second = rw e; third = rw e }
 
 module _ {A : Type 0} {row : ℕ → List ℕ → Read A} {f g h : A → ℕ} {text a₀ b₀ c₀ a b c : List ℕ} {n at : ℕ} (v : Filling row f g h text a₀ b₀ c₀ a b c n at) where
@@ -228,14 +231,14 @@ module _ {A : Type 0} {row : ℕ → List ℕ → Read A} {f g h : A → ℕ} {t
       third = rw same (column_end h v.in_c d.count);
     }
 
-    pub fill_end : length text ≤ at → Fills f g h found a₀ b₀ c₀ (Whole n) a b c
+    pub fill_end : length text ≤ at → Fills f g h found a₀ b₀ c₀ (Ok n) a b c
     fill_end k = ended whole (reads_end v.reads k)
 
     module _ {p : ℕ} (w : Past text at p) (q : p ≤ at) where
-      pub fill_bad : row at (line_at text at) ≡ bad → Fills f g h found a₀ b₀ c₀ (Malformed n) a b c
+      pub fill_bad : row at (line_at text at) ≡ bad → Fills f g h found a₀ b₀ c₀ (Err (Malformed n)) a b c
       fill_bad e = ended malformed (reads_bad v.reads (w.stays q) e)
 
-      pub fill_full : (x : A) → row at (line_at text at) ≡ good x → n ≡ length a₀ → Fills f g h found a₀ b₀ c₀ (Full n) a b c
+      pub fill_full : (x : A) → row at (line_at text at) ≡ good x → n ≡ length a₀ → Fills f g h found a₀ b₀ c₀ (Err (Full n)) a b c
       fill_full x e k = ended full (reads_full v.reads (w.stays q) x e k)
 
   pub fill_pass : {next : ℕ} → Past text at next → at < next → Filling row f g h text a₀ b₀ c₀ a b c n next
@@ -255,6 +258,6 @@ module _ {A : Type 0} {row : ℕ → List ℕ → Read A} {f g h : A → ℕ} {t
       }
 
 -- any two results that a reader's contract allows are equal
-pub fills_one : {A : Type 0} {f g h : A → ℕ} {found : Found A} {a b c : List ℕ} {r s : Reading} {a' b' c' a'' b'' c'' : List ℕ} →
+pub fills_one : {A : Type 0} {f g h : A → ℕ} {found : Found A} {a b c : List ℕ} {r s : Result ℕ ReadError} {a' b' c' a'' b'' c'' : List ℕ} →
     Fills f g h found a b c r a' b' c' → Fills f g h found a b c s a'' b'' c'' → (r ≡ s) × (a' ≡ a'') × (b' ≡ b'') × (c' ≡ c'')
 fills_one v w = (v.answered ∙ sym w.answered, v.first ∙ sym w.first, v.second ∙ sym w.second, v.third ∙ sym w.third)

@@ -1,10 +1,8 @@
 -- What is found from a place of a text on: the line and the field that start there, the number in that field.
-use Rattle.std.specs.Prelude.{ℕ, suc, ◌+◌, ◌-◌, ◌^◌, ◌≤◌, ◌<◌, min, ◌≡◌, List, [], ◌∷◌, Bool, true, false, cond, not, ◌&&◌, length, get_or, drop, eqb}
+use Rattle.std.specs.Prelude.{ℕ, suc, ◌+◌, ◌-◌, ◌^◌, ◌≤◌, ◌<◌, min, ◌≡◌, List, [], ◌∷◌, Bool, true, false, cond, not, ◌&&◌, length, get_or, drop, eqb, Option, Some, None}
 use Rattle.fields.specs.Number.{Read, good, bad, is_digit, digits, value, number_of}
 use Rattle.fields.specs.Table.{passed}
 use Rattle.fields.specs.declared.Number.{Number}
-use Rattle.fields.specs.declared.Number.TheVariants.{Value, Bad}
-use Rattle.fields.specs.declared.Digits.{Digits}
 
 -- the longest start of a list whose bytes all pass
 unfoldable pub front : (ℕ → Bool) → List ℕ → List ℕ
@@ -41,11 +39,11 @@ pub record Past (text : List ℕ) (at r : ℕ) : Type 0 where
   pub stays : r ≤ at → passed (line_at text at) ≡ false
 
 -- the number of the field that starts at a place, with the place where the field ends
-abbrev pub number_read : ℕ → Read ℕ → Number
-number_read stop (good v) = Value v stop
-number_read stop bad = Bad
+abbrev pub number_read : ℕ → Read ℕ → Option Number
+number_read stop (good v) = Some (record { value = v; end = stop })
+number_read stop bad = None
 
-unfoldable pub number_at : List ℕ → ℕ → Number
+unfoldable pub number_at : List ℕ → ℕ → Option Number
 number_at text at = number_read (at + length (field_at text at)) (number_of (field_at text at))
 
 -- a walk from `from` stands at i: the start that it passes over ends at the same place
@@ -63,7 +61,13 @@ pub record Counting (text : List ℕ) (from i v : ℕ) : Type 0 where
   pub same_value : value 0 (field_at text from) ≡ value v (field_at text i)
 
 -- a walk over digits that stops at the first other byte, or at `to`
-pub record Counted (text : List ℕ) (from to : ℕ) (d : Digits) : Type 0 where
-  pub counting : Counting text from d.stop d.value
-  pub high : d.stop ≤ to
-  pub stopped : d.stop < to → is_digit (get_or text d.stop 0) ≡ false
+pub record Counted (text : List ℕ) (from to : ℕ) (d : Number) : Type 0 where
+  pub counting : Counting text from d.end d.value
+  pub high : d.end ≤ to
+  pub stopped : d.end < to → is_digit (get_or text d.end 0) ≡ false
+
+-- whether a field that goes as far as `at` ends there, or goes on with the byte at `at`
+pub record FieldOver (text : List ℕ) (at : ℕ) (r : Bool) : Type 0 where
+  pub over : r ≡ true → field_at text at ≡ []
+  pub inside : r ≡ false → at < length text
+  pub more : r ≡ false → in_field (get_or text at 0) ≡ true

@@ -1,9 +1,9 @@
 -- What a text of lines gives: its good rows in order, where it stops and why; for any kind of row.
-use Rattle.std.specs.Prelude.{ℕ, zero, suc, pred, ◌+◌, ◌≡◌, List, [], ◌∷◌, ◌++◌, map, Bool, true, cond, length, drop, eqb}
+use Rattle.std.specs.Prelude.{ℕ, zero, suc, pred, ◌+◌, ◌≡◌, List, [], ◌∷◌, ◌++◌, map, Bool, true, cond, length, drop, eqb, Result, Ok, Err}
 use Rattle.fields.specs.Cut.{lines}
 use Rattle.fields.specs.Number.{Read, good, bad}
-use Rattle.fields.specs.declared.Reading.{Reading}
-use Rattle.fields.specs.declared.Reading.TheVariants.{Whole, Malformed, Full, Refused}
+use Rattle.fields.specs.declared.ReadError.{ReadError}
+use Rattle.fields.specs.declared.ReadError.TheVariants.{Malformed, Full, Refused}
 
 -- why a reading ends: the text is read; "11: text line malformed"; "12: one good row more than the row slots lent";
 -- "1: .. lent columns differ in length" and what else a reader refuses before it reads
@@ -56,29 +56,36 @@ module _ {A : Type 0} where
   written f found old = map f found.rows ++ drop (length found.rows) old
 
 -- the answer to a reading that ended so, with so many rows ahead
-abbrev pub answer : End → ℕ → Reading
-answer whole n = Whole n
-answer malformed n = Malformed n
-answer full n = Full n
-answer refused n = Refused
+abbrev pub answer : End → ℕ → Result ℕ ReadError
+answer whole n = Ok n
+answer malformed n = Err (Malformed n)
+answer full n = Err (Full n)
+answer refused n = Err Refused
 
 -- what a reader answers and leaves in its three lent columns a, b, c, which take f, g and h of each row
-pub record Fills {A : Type 0} (f g h : A → ℕ) (found : Found A) (a b c : List ℕ) (r : Reading) (a' b' c' : List ℕ) : Type 0 where
+pub record Fills {A : Type 0} (f g h : A → ℕ) (found : Found A) (a b c : List ℕ) (r : Result ℕ ReadError) (a' b' c' : List ℕ) : Type 0 where
   pub answered : r ≡ answer found.end (length found.rows)
   pub first : a' ≡ written f found a
   pub second : b' ≡ written g found b
   pub third : c' ≡ written h found c
 
+-- the refusal number of an error
+abbrev pub error_number : ReadError → ℕ
+error_number (Malformed n) = 11
+error_number (Full n) = 12
+error_number Refused = 1
+
 -- the refusal number of an answer, 0 for none
-abbrev pub refusal_of : Reading → ℕ
-refusal_of (Whole n) = 0
-refusal_of (Malformed n) = 11
-refusal_of (Full n) = 12
-refusal_of Refused = 1
+abbrev pub refusal_of : Result ℕ ReadError → ℕ
+refusal_of (Ok n) = 0
+refusal_of (Err e) = error_number e
 
 -- the rows ahead of the end
-abbrev pub rows_of : Reading → ℕ
-rows_of (Whole n) = n
-rows_of (Malformed n) = n
-rows_of (Full n) = n
-rows_of Refused = 0
+abbrev pub error_rows : ReadError → ℕ
+error_rows (Malformed n) = n
+error_rows (Full n) = n
+error_rows Refused = 0
+
+abbrev pub rows_of : Result ℕ ReadError → ℕ
+rows_of (Ok n) = n
+rows_of (Err e) = error_rows e

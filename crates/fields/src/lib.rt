@@ -2,9 +2,13 @@
 // The functions here are called by proved readers alone.
 #![tactic(auto)]
 
-ghost use Rattle.std.specs.Prelude.{◌≡◌, ◌+◌, ◌<◌, ◌≤◌, min, true, length, get_or, drop};
-ghost use Rattle.fields.specs.Scan.{in_field, FieldTo, Past, next_line, number_at, Counting, Counted};
-ghost use Rattle.fields.specs.Names.{part, within, names, same, number_in};
+mod lists;
+
+ghost use Rattle.std.specs.Prelude.{◌≡◌, ◌+◌, ◌<◌, ◌≤◌, true, false, length, get_or, MatchOption, IsTrue, ◌↔◌, ℕ};
+ghost use Rattle.fields.specs.Scan.{in_field, FieldTo, FieldOver, Past, next_line, number_at, Counting, Counted};
+ghost use Rattle.fields.specs.Table.{error_number, error_rows};
+
+pub use lists::Names;
 
 // A list of names: a text, and where each name starts and ends there; of any places.
 #[derive(Clone, Copy)]
@@ -14,242 +18,178 @@ pub struct NameList<'a> {
     pub to: &'a [usize],
 }
 
-// How a reading ended, with the rows ahead of the end; refused: nothing was read.
-#[derive(Clone, Copy)]
-pub enum Reading {
-    Whole(usize),
+// Why a reading stopped ahead of the text's end, with the rows ahead of that place.
+#[derive(Clone, Copy, PartialEq, Eq)]
+pub enum ReadError {
+    // 11: a line is malformed.
     Malformed(usize),
+    // 12: one good row more than the slots lent.
     Full(usize),
+    // 1: nothing was read.
     Refused,
 }
 
-// The number in a field, and where the field ends; or the field holds none.
+impl ReadError {
+    // The refusal's number.
+    pub fn number(self) -> u64
+        ensures { result ≡ error_number self }
+    {
+        match self {
+            ReadError::Malformed(_) => 11,
+            ReadError::Full(_) => 12,
+            ReadError::Refused => 1,
+        }
+    }
+
+    // The rows ahead of the place where the reading stopped.
+    pub fn rows(self) -> usize
+        ensures { result ≡ error_rows self }
+    {
+        match self {
+            ReadError::Malformed(n) | ReadError::Full(n) => n,
+            ReadError::Refused => 0,
+        }
+    }
+}
+
+// A number of a text, and where it ends.
 #[derive(Clone, Copy)]
-pub enum Number {
-    Value(u64, usize),
-    Bad,
+pub struct Number {
+    pub value: u64,
+    pub end: usize,
 }
 
 // Where the field that starts at `from` ends: at the next tab or LF, or where the text ends.
+#[tactic(auto, using(crate::proofs::Scan::walks))]
 pub fn field_end(text: &[u8], from: usize) -> usize
     requires { from ≤ length text.now }
     ensures { FieldTo text.now from result }
 {
-    let end = text.len();
-    let mut i = from;
-    while i < end {
-        let b = text[i];
-        if b == b'\t' {
+    for i in from..text.len() {
+        if matches!(text[i], b'\t' | b'\n') {
             return i;
         }
-        if b == b'\n' {
-            return i;
-        }
-        i += 1;
     }
-    i
+    text.len()
 }
 
 // Where the line after the one that `from` lies in starts: behind the next LF, or where the text ends.
+#[tactic(auto, using(crate::proofs::Scan::walks))]
 pub fn next_line(text: &[u8], from: usize) -> usize
     requires { from ≤ length text.now }
     ensures { (result ≡ next_line text.now from) × (result ≤ length text.now) }
 {
-    let end = text.len();
-    let mut i = from;
-    while i < end {
-        let b = text[i];
-        i += 1;
-        if b == b'\n' {
-            return i;
+    for i in from..text.len() {
+        if text[i] == b'\n' {
+            return i + 1;
         }
     }
-    i
+    text.len()
 }
 
 // Past the line that starts at `at`, if it is empty or a comment; else `at` itself.
+#[tactic(auto, using(crate::proofs::Tables::pasts))]
 pub fn past(text: &[u8], at: usize) -> usize
     requires { at < length text.now }
     ensures { Past text.now at result }
 {
-    let b = text[at];
-    if b == b'\n' {
-        return at + 1;
+    match text[at] {
+        b'\n' => at + 1,
+        b'#' => next_line(text, at),
+        _ => at,
     }
-    if b == b'#' {
-        return next_line(text, at);
-    }
-    at
 }
 
-// A byte as a number of 64 bits.
-fn wide(x: u8) -> u64
-    ensures { result ≡ x }
+// Whether a field ends at `at`: the text does, or a tab or LF stands there.
+#[tactic(auto, using(crate::proofs::Scan::walks))]
+fn is_over(text: &[u8], at: usize) -> bool
+    ensures { FieldOver text.now at result }
 {
-    x as u64
+    matches!(text.get(at), None | Some(b'\t' | b'\n'))
 }
 
-// The smaller of two numbers.
-pub fn least(a: usize, b: usize) -> usize
-    ensures { result ≡ min a b }
-{
-    if a < b {
-        return a;
-    }
-    b
-}
-
-// Digits passed over: their value, and where the walk stopped.
-#[derive(Clone, Copy)]
-struct Digits {
-    value: u64,
-    stop: usize,
-}
-
-// The digits from `from` on, as far as `to`. So few always fit 64 bits, and no turn asks.
-fn digits_from(text: &[u8], from: usize, to: usize) -> Digits
+// The digits from `from` on, as far as `to`: their value, and where the walk over them stopped. So few always fit 64 bits, and no
+// turn asks.
+#[tactic(auto, using(crate::proofs::Numbers::counts))]
+fn digits_from(text: &[u8], from: usize, to: usize) -> Number
     requires { (from ≤ to) × (to ≤ length text.now) × (to ≤ from + 19) }
     ensures { Counted text.now from to result }
 {
-    let mut v: u64 = 0;
-    let mut i = from;
-    while i < to {
+    let mut value: u64 = 0;
+    for i in from..to {
         let b = text[i];
-        if b < b'0' {
-            return Digits { value: v, stop: i };
+        if !matches!(b, b'0'..=b'9') {
+            return Number { value, end: i };
         }
-        if b'9' < b {
-            return Digits { value: v, stop: i };
-        }
-        v = v * 10 + wide(b - b'0');
-        i += 1;
+        value = value * 10 + u64::from(b - b'0');
     }
-    Digits { value: v, stop: i }
+    Number { value, end: to }
 }
 
 // The number of a field of which 19 digits, of value v, are passed, and which goes on at `at`.
-fn twentieth(text: &[u8], from: usize, v: u64, at: usize) -> Number
+fn twentieth(text: &[u8], from: usize, v: u64, at: usize) -> Option<Number>
     requires { Counting text.now from at v × (at ≡ from + 19) × (at < length text.now) × (in_field (get_or text.now at 0) ≡ true) }
     ensures { result ≡ number_at text.now from }
 {
     let b = text[at];
-    if b < b'0' {
-        return Number::Bad;
+    if !matches!(b, b'0'..=b'9') {
+        return None;
     }
-    if b'9' < b {
-        return Number::Bad;
+    let digit = u64::from(b - b'0');
+    let value = v.checked_mul(10)?.checked_add(digit)?;
+    let end = at + 1;
+    if is_over(text, end) {
+        return Some(Number { value, end });
     }
-    let d = wide(b - b'0');
-    if 1844674407370955161 < v {
-        return Number::Bad;
-    }
-    let w = v * 10;
-    if 18446744073709551615 - w < d {
-        return Number::Bad;
-    }
-    let n = at + 1;
-    if n == text.len() {
-        return Number::Value(w + d, n);
-    }
-    let e = text[n];
-    if e == b'\t' {
-        return Number::Value(w + d, n);
-    }
-    if e == b'\n' {
-        return Number::Value(w + d, n);
-    }
-    Number::Bad
+    None
 }
 
 // The number of the field that starts at `from`, and where the field ends.
-pub fn number_at(text: &[u8], from: usize) -> Number
+pub fn number_at(text: &[u8], from: usize) -> Option<Number>
     requires { from ≤ length text.now }
     ensures { result ≡ number_at text.now from }
 {
-    let end = text.len();
     let far = from + 19;
-    let to = least(far, end);
-    let d = digits_from(text, from, to);
-    let v = d.value;
-    let stop = d.stop;
-    if stop == from {
-        return Number::Bad;
+    let digits = digits_from(text, from, far.min(text.len()));
+    if digits.end == from {
+        return None;
     }
-    if stop == end {
-        return Number::Value(v, stop);
+    if is_over(text, digits.end) {
+        return Some(digits);
     }
-    let b = text[stop];
-    if b == b'\t' {
-        return Number::Value(v, stop);
+    if digits.end < far {
+        return None;
     }
-    if b == b'\n' {
-        return Number::Value(v, stop);
-    }
-    if stop < far {
-        return Number::Bad;
-    }
-    twentieth(text, from, v, stop)
+    twentieth(text, from, digits.value, digits.end)
 }
 
-// Whether the two columns are equally long and each name lies in a text of n bytes.
-pub fn all_within(n: usize, from: &[usize], to: &[usize]) -> bool
-    ensures { result ≡ within n from.now to.now }
+// Whether each name of two columns that are equally long lies in a text of so many bytes.
+fn are_inside(from: &[usize], to: &[usize], size: usize) -> bool
+    requires { length from.now ≡ length to.now }
+    ensures { IsTrue result ↔ ((k : ℕ) → k < length from.now → (get_or from.now k 0 ≤ get_or to.now k 0) × (get_or to.now k 0 ≤ size)) }
 {
-    let count = from.len();
-    if to.len() != count {
-        return false;
-    }
-    let mut k = 0;
-    while k < count {
-        let f = from[k];
-        let t = to[k];
-        if t < f {
-            return false;
-        }
-        if n < t {
-            return false;
-        }
-        k += 1;
-    }
-    true
+    from.iter()
+        .zip(to)
+        .all(|(from, to)| from <= to && *to <= size)
 }
 
-// Whether the bytes of a text from `from` up to `to` are those of a name.
-fn is_name(text: &[u8], from: usize, to: usize, name: &[u8]) -> bool
-    requires { (from ≤ to) × (to ≤ length text.now) }
-    ensures { result ≡ same (part from to text.now) name.now }
-{
-    let n = name.len();
-    if to - from != n {
-        return false;
-    }
-    let mut i = 0;
-    while i < n {
-        let at = from + i;
-        let a = text[at];
-        let b = name[i];
-        if a != b {
-            return false;
-        }
-        i += 1;
-    }
-    true
-}
+impl<'a> NameList<'a> {
+    ghost use Rattle.fields.specs.Names.{is_within};
 
-// The number of a name in list order among those from the number `first` on, or the number after the last.
-pub fn find_in(text: &[u8], from: &[usize], to: &[usize], first: usize, name: &[u8]) -> usize
-    requires { (within (length text.now) from.now to.now ≡ true) × (first ≤ length from.now) }
-    ensures { result ≡ first + number_in (names text.now (drop first from.now) (drop first to.now)) name.now }
-{
-    let count = from.len();
-    let mut k = first;
-    while k < count {
-        let f = from[k];
-        let t = to[k];
-        if is_name(text, f, t, name) {
-            return k;
-        }
-        k += 1;
+    // Whether the two columns are equally long and each name lies in the text.
+    pub fn is_within(self) -> bool
+        ensures { result ≡ is_within self.entry }
+    {
+        self.from.len() == self.to.len() && are_inside(self.from, self.to, self.text.len())
     }
-    k
+
+    // The list as one whose names all lie in its text, if they do.
+    pub fn names(self) -> Option<Names<'a>>
+        ensures { MatchOption result (is_within self.entry ≡ false) (λ n. (n.list ≡ self.entry) × (is_within self.entry ≡ true)) }
+    {
+        if self.is_within() {
+            return Some(Names { list: self });
+        }
+        None
+    }
 }

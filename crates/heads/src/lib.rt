@@ -3,6 +3,7 @@
 
 ghost use Rattle.std.specs.Prelude.{◌≡◌, List, [], ◌∷◌, ℕ, ◌+◌, ◌<◌, ◌≤◌, length};
 ghost use Rattle.std.proofs.Math.Option.{none, some};
+ghost use Rattle.rules.specs.declared.End.TheVariants.{Faulty, Unsorted};
 ghost use Rattle.rules.specs.Rows.{good, follows, fault};
 ghost use Rattle.rules.specs.Overlap.{taken, live};
 ghost use Rattle.basics.specs.Lists.{Says};
@@ -12,7 +13,6 @@ ghost use Rattle.heads.specs.Move.{best_record, next_row, next_record, check_of,
 
 use least::Best;
 use rules::{Base, Chrom, End, Settings, Stream};
-use std::cmp::Ordering;
 
 // Columns of numbers, lent: all streams' rows, one after the other; or bases.
 #[derive(Clone, Copy)]
@@ -63,19 +63,22 @@ pub struct Heads {
     pub streams: usize,
 }
 
-// Whether a head is taken at a base: it lies on an earlier chromosome, or on the base's with start < base stop.
-fn is_taken(b: Base, h: Best) -> bool
+// Whether a head is taken at a base: it lies on an earlier chromosome, or on the base's with start < base stop. Not by `cmp`: that costs ten
+// instructions a record more than the bar of `docs/PERFORMANCE.md` leaves.
+pub fn is_taken(b: Base, h: Best) -> bool
     ensures { result ≡ taken b (best_record h) }
 {
-    match h.chrom.cmp(&b.chrom) {
-        Ordering::Less => true,
-        Ordering::Equal => measures::reaches(b.stop, h.start),
-        Ordering::Greater => false,
+    if h.chrom < b.chrom {
+        return true;
     }
+    if b.chrom < h.chrom {
+        return false;
+    }
+    measures::reaches(b.stop, h.start)
 }
 
 // Whether a head is live for a base: it is on the base's chromosome and ends after base start.
-fn is_live(b: Base, h: Best) -> bool
+pub fn is_live(b: Base, h: Best) -> bool
     ensures { result ≡ live b (best_record h) }
 {
     h.chrom == b.chrom && measures::lasts(b.start, h.stop)
@@ -95,6 +98,23 @@ fn is_ordered(h: Best, x: Next) -> bool
     (h.chrom, h.start) <= (x.chrom, x.start)
 }
 
+// 7 and 8, out of line: a run meets one of them once at most.
+#[cold]
+#[inline(never)]
+fn faulty(stream: Stream, row: u64) -> End
+    ensures { result ≡ Faulty stream row }
+{
+    End::Faulty(stream, row)
+}
+
+#[cold]
+#[inline(never)]
+fn unsorted(stream: Stream, row: u64) -> End
+    ensures { result ≡ Unsorted stream row }
+{
+    End::Unsorted(stream, row)
+}
+
 // What is wrong with the first row of stream k, of n chromosomes: 7.
 fn check_first(n: u64, k: Stream, x: Next) -> Result<(), End>
     ensures { result ≡ check_of (fault n none (next_record k x)) }
@@ -102,7 +122,7 @@ fn check_first(n: u64, k: Stream, x: Next) -> Result<(), End>
     if is_good(n, x) {
         return Ok(());
     }
-    Err(End::Faulty(k, x.row))
+    Err(faulty(k, x.row))
 }
 
 // What is wrong with the row behind a head: 7, then 8.
@@ -110,10 +130,10 @@ fn check_behind(n: u64, h: Best, x: Next) -> Result<(), End>
     ensures { result ≡ check_of (fault n (some (best_record h).it) (next_record h.stream x)) }
 {
     if !is_good(n, x) {
-        return Err(End::Faulty(h.stream, x.row));
+        return Err(faulty(h.stream, x.row));
     }
     if !is_ordered(h, x) {
-        return Err(End::Unsorted(h.stream, x.row));
+        return Err(unsorted(h.stream, x.row));
     }
     Ok(())
 }

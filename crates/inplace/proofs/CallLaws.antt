@@ -5,27 +5,36 @@ use Prim.Native.Nat.{ℕ}
 use lib.ListN.{length}
 use Rattle.rules.specs.declared.Settings.{Settings}
 use Rattle.heads.specs.View.{Cols}
-use Rattle.runs.specs.declared.start.Started.{Started}
-use Rattle.runs.specs.Start.{plan, start_of}
-use Rattle.fields.specs.declared.Reading.{Reading}
+use Rattle.std.specs.Prelude.{Result, Ok, Err}
+use Rattle.rules.specs.declared.Unbegun.{Unbegun}
+use Rattle.runs.specs.declared.Run.{Run}
+use Rattle.rules.specs.Numbers.{unbegun_number}
+use Rattle.runs.specs.Start.{Plan, plan, start_of, kept_of, none_run}
+use Rattle.fields.specs.declared.ReadError.{ReadError}
 use Rattle.fields.specs.Table.{Found, Fills}
 use Rattle.inplace.specs.declared.readers.Tally.{Tally}
 use Rattle.inplace.specs.Calls.{eight_of, streams_in, plan_of, begun_number, BeginsInPlace}
 use Rattle.inplace.specs.Tally.{tally_of, Tallies}
 
--- a run begun with ranges in two columns, and its answer told
-pub begins_so : (x : Settings) (from to : List ℕ) (text names_from names_to : List ℕ) (s : Cols) {n : ℕ} {begins ends : List ℕ} {t : Started} {k : ℕ}
+-- a run begun with ranges in two columns
+pub begins_so : (x : Settings) (from to : List ℕ) (text names_from names_to : List ℕ) (s : Cols) {n : ℕ} {begins ends : List ℕ} {t : Result Run Unbegun}
     → t ≡ start_of (plan (record { streams = n; chroms = x.chroms; room = x.room }) begins ends text names_from names_to s) → n ≡ streams_in x.streams (length from) (length to) → begins ≡ eight_of from → ends ≡ eight_of to
-    → k ≡ begun_number t.begins → BeginsInPlace (plan_of x from to text names_from names_to s) k t.run
-begins_so x from to text names_from names_to s {n} {begins} {ends} {t} {k} et en ef eo ek =
-    let es : t ≡ start_of (plan_of x from to text names_from names_to s) =
+    → t ≡ start_of (plan_of x from to text names_from names_to s)
+begins_so x from to text names_from names_to s {n} {begins} {ends} {t} et en ef eo =
     et ∙ ap (λ (m : ℕ). start_of (plan (record { streams = m; chroms = x.chroms; room = x.room }) begins ends text names_from names_to s)) en ∙
     ap (λ (l : List ℕ). start_of (plan (record { streams = streams_in x.streams (length from) (length to); chroms = x.chroms; room = x.room }) l ends text names_from names_to s)) ef ∙
-    ap (λ (l : List ℕ). start_of (plan (record { streams = streams_in x.streams (length from) (length to); chroms = x.chroms; room = x.room }) (eight_of from) l text names_from names_to s)) eo in
-    record { number = ek ∙ ap (λ (u : Started). begun_number u.begins) es; run = ap (λ (u : Started). u.run) es }
+    ap (λ (l : List ℕ). start_of (plan (record { streams = streams_in x.streams (length from) (length to); chroms = x.chroms; room = x.room }) (eight_of from) l text names_from names_to s)) eo
+
+-- and its answer told
+module _ (p : Plan) where
+  pub begun_so : {r : Run} → Ok r ≡ start_of p → BeginsInPlace p 0 r
+  begun_so e = record { number = ap begun_number e; run = ap kept_of e }
+
+  pub unbegun_so : {x : Unbegun} {n : ℕ} → Err x ≡ start_of p → n ≡ unbegun_number x → BeginsInPlace p n none_run
+  unbegun_so e q = record { number = q ∙ ap begun_number e; run = ap kept_of e }
 
 -- a reading whose answer is told
-pub tallies_so : {A : Type 0} {f g h : A → ℕ} {found : Found A} {a b c a' b' c' : List ℕ} {r : Reading} {t : Tally}
+pub tallies_so : {A : Type 0} {f g h : A → ℕ} {found : Found A} {a b c a' b' c' : List ℕ} {r : Result ℕ ReadError} {t : Tally}
     → Fills f g h found a b c r a' b' c' → t ≡ tally_of r → Tallies f g h found a b c t a' b' c'
 tallies_so {r} e et =
     record { told = et ∙ ap tally_of e.answered; fills = record { answered = refl; first = e.first; second = e.second; third = e.third } }

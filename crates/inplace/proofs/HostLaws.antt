@@ -17,6 +17,7 @@ use Rattle.std.specs.Prelude.{Some, None}
 use Rattle.std.specs.Prelude as std
 use Rattle.rules.specs.declared.Refusal.{Refusal}
 use Rattle.rules.specs.declared.Refusal.TheVariants.{Sizes}
+use Rattle.std.specs.Prelude.{Err}
 use Rattle.rules.specs.declared.Settings.{Settings}
 use Rattle.rules.specs.declared.Unbegun.TheVariants as unbegun
 use Rattle.rules.specs.Numbers.{number_of}
@@ -29,10 +30,9 @@ use Rattle.admit.specs.Right.{measured}
 use Rattle.admit.proofs.RightLaws.{right_off}
 use Rattle.pulls.specs.Pulls.{Lent, drawn_to}
 use Rattle.runs.specs.declared.Run.{Run}
-use Rattle.runs.specs.declared.start.Begins.TheVariants as begins
 use Rattle.runs.specs.Marks.{marked}
 use Rattle.runs.specs.View.{heads_of, ring_of, stage_of, run_of, eight}
-use Rattle.runs.specs.Start.{Plan, names_of, lendable, refused_of, begun_by, start_of}
+use Rattle.runs.specs.Start.{Plan, names_of, lendable, refused_of, started, start_of}
 use Rattle.runs.specs.Comes.{lens_of, right_of, given_of}
 use Rattle.step.specs.Settle.{run_by}
 use Rattle.step.specs.Give.{opened_by, Gives}
@@ -158,17 +158,17 @@ one_begun p n m r k f g = f.run ∙ sym g.run
 -- ---- the ranges
 
 -- "1 to 8 streams."
-few_refused : (p : Plan) → within 1 8 p.settings.streams ≡ false → (start_of p).begins ≡ begins.Refused unbegun.Sizes
+few_refused : (p : Plan) → within 1 8 p.settings.streams ≡ false → start_of p ≡ Err unbegun.Sizes
 unfolding refused_of refuses_start
 few_refused p e = go (lendable p)
   where
-    go : (t : Bool) → begun_by (cond t (refuses_start p.settings (names_of p)) (some unbegun.Sizes)) ≡ begins.Refused unbegun.Sizes
+    go : (t : Bool) → started (cond t (refuses_start p.settings (names_of p)) (some unbegun.Sizes)) p ≡ Err unbegun.Sizes
     go true = rw e
     go false = refl
 
 module _ (x : Settings) (from to : List ℕ) (text names_from names_to : List ℕ) (s : Cols) where
   -- "a range for each stream": "lent columns differ in length"
-  pub uneven_refused : ((length from ≡ x.streams) × (length to ≡ x.streams) → ⊥) → (start_of (plan_of x from to text names_from names_to s)).begins ≡ begins.Refused unbegun.Sizes
+  pub uneven_refused : ((length from ≡ x.streams) × (length to ≡ x.streams) → ⊥) → start_of (plan_of x from to text names_from names_to s) ≡ Err unbegun.Sizes
   uneven_refused d = few_refused (plan_of x from to text names_from names_to s) (go (eqb (length from) x.streams) (eqb (length to) x.streams) refl refl)
     where
       go : (t u : Bool) → eqb (length from) x.streams ≡ t → eqb (length to) x.streams ≡ u → within 1 8 (streams_in x.streams (length from) (length to)) ≡ false
@@ -176,7 +176,7 @@ module _ (x : Settings) (from to : List ℕ) (text names_from names_to : List �
       go true false a b = rw (a, b)
       go false u a b = rw a
 
-  pub many_refused : 8 < x.streams → (start_of (plan_of x from to text names_from names_to s)).begins ≡ begins.Refused unbegun.Sizes
+  pub many_refused : 8 < x.streams → start_of (plan_of x from to text names_from names_to s) ≡ Err unbegun.Sizes
   many_refused d = few_refused (plan_of x from to text names_from names_to s) (go (eqb (length from) x.streams && eqb (length to) x.streams))
     where
       go : (t : Bool) → within 1 8 (cond t x.streams 0) ≡ false

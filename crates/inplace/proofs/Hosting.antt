@@ -10,9 +10,9 @@ use Rattle.heads.specs.View.{Cols}
 use Rattle.queue.specs.Ring.{Cells}
 use Rattle.pulls.specs.Pulls.{Lent, lent}
 use Rattle.runs.specs.declared.Run.{Run}
-use Rattle.runs.specs.declared.start.Begins.{Begins}
-use Rattle.runs.specs.declared.start.Begins.TheVariants as begins
-use Rattle.runs.specs.Start.{Plan, start_of}
+use Rattle.std.specs.Prelude.{Result, Ok, Err}
+use Rattle.rules.specs.declared.Unbegun.{Unbegun}
+use Rattle.runs.specs.Start.{Plan, start_of, kept_of}
 use Rattle.demands.specs.Calls.{Came, Calls, Runs}
 use Rattle.demands.proofs.Chained.{calls_then}
 use Rattle.many.specs.Many.{base_at}
@@ -72,12 +72,12 @@ module _ {s : Cols} {lengths : List ℕ} where
       }
 
 -- a run that `cedarlash_begin` began: its calls are those that the demands speak of
-begun : (b : Begins) → 0 ≡ begun_number b → b ≡ begins.Begun
-begun begins.Begun e = refl
-begun (begins.Refused unbegun.Sizes) e = absurd (omega (arith, e))
-begun (begins.Refused unbegun.Names) e = absurd (omega (arith, e))
+begun : (t : Result Run Unbegun) → 0 ≡ begun_number t → t ≡ Ok (kept_of t)
+begun (Ok r) e = refl
+begun (Err unbegun.Sizes) e = absurd (omega (arith, e))
+begun (Err unbegun.Names) e = absurd (omega (arith, e))
 
 pub hosted_runs : {p : Plan} {lengths : List ℕ} {r v : Run} {c d : Cells} {xs : List Seen} → BeginsInPlace p 0 r → (h : Hosted p.cols lengths r c xs v d) → Runs p lengths (one_by_one h).bases (one_by_one h).came
 hosted_runs {p} {lengths} {r} {v} {c} {d} b h =
     let y = one_by_one h in
-    record { begun = begun (start_of p).begins b.number; cells = c; last = v; left = d; calls = subst (λ (x : Run). Calls p.cols lengths x c y.bases y.came v d) b.run y.calls }
+    record { first = r; begun = rw b.run (begun (start_of p) b.number); cells = c; last = v; left = d; calls = y.calls }

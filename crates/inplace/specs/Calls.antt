@@ -1,5 +1,5 @@
 -- What the calls on a run kept in place say, for all inputs.
-use Rattle.std.specs.Prelude.{◌≡◌, cond, ◌&&◌, List, [], ◌∷◌, ℕ, eqb, length, get_or}
+use Rattle.std.specs.Prelude.{◌≡◌, cond, ◌&&◌, List, [], ◌∷◌, ℕ, eqb, length, get_or, Result, Ok, Err}
 use Rattle.rules.specs.declared.Base.{Base}
 use Rattle.rules.specs.declared.Answer.{Answer}
 use Rattle.rules.specs.declared.Settings.{Settings}
@@ -8,9 +8,8 @@ use Rattle.rules.specs.Call.{answer_of}
 use Rattle.heads.specs.View.{Cols}
 use Rattle.pulls.specs.Pulls.{Lent}
 use Rattle.runs.specs.declared.Run.{Run}
-use Rattle.runs.specs.declared.start.Begins.{Begins}
-use Rattle.runs.specs.declared.start.Begins.TheVariants.{Begun, Refused}
-use Rattle.runs.specs.Start.{Plan, plan, start_of}
+use Rattle.rules.specs.declared.Unbegun.{Unbegun}
+use Rattle.runs.specs.Start.{Plan, plan, start_of, kept_of}
 use Rattle.runs.specs.Comes.{given_of}
 use Rattle.step.specs.Give.{Gives}
 use Rattle.many.specs.declared.Passed.{Passed}
@@ -34,14 +33,14 @@ plan_of x from to text names_from names_to s =
     plan (record { streams = streams_in x.streams (length from) (length to); chroms = x.chroms; room = x.room }) (eight_of from) (eight_of to) text names_from names_to s
 
 -- 0, or "At a start: 1, then 2."
-abbrev pub begun_number : Begins → ℕ
-begun_number Begun = 0
-begun_number (Refused x) = unbegun_number x
+abbrev pub begun_number : Result Run Unbegun → ℕ
+begun_number (Ok r) = 0
+begun_number (Err x) = unbegun_number x
 
 -- the answer, and what is kept then: the run that begins, or the run of no streams
 pub record BeginsInPlace (p : Plan) (n : ℕ) (r' : Run) : Type 0 where
-  pub number : n ≡ begun_number (start_of p).begins
-  pub run : r' ≡ (start_of p).run
+  pub number : n ≡ begun_number (start_of p)
+  pub run : r' ≡ kept_of (start_of p)
 
 -- ---- bases are given one after the other
 

@@ -1,11 +1,11 @@
 -- What the readers for hosts say: as the readers do, with the answer in numbers.
-use Rattle.std.specs.Prelude.{◌≡◌, List, ℕ, length}
-use Rattle.fields.specs.declared.Reading.{Reading}
+use Rattle.std.specs.Prelude.{◌≡◌, List, ℕ, length, Result}
+use Rattle.fields.specs.declared.ReadError.{ReadError}
 use Rattle.fields.specs.Table.{Found, Fills, answer, refusal_of, rows_of}
 use Rattle.inplace.specs.declared.readers.Tally.{Tally}
 
 -- the refusal number of an answer, and the rows ahead of its end
-abbrev pub tally_of : Reading → Tally
+abbrev pub tally_of : Result ℕ ReadError → Tally
 tally_of r = record { refusal = refusal_of r; rows = rows_of r }
 
 -- what a reader answers and leaves in its three lent columns

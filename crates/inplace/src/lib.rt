@@ -4,16 +4,17 @@
 mod readers;
 mod told;
 
-ghost use Rattle.std.specs.Prelude.{◌≡◌, get_or};
-ghost use Rattle.heads.specs.View.{cols};
+ghost use Rattle.std.specs.Prelude.{◌≡◌};
+ghost use Rattle.heads.specs.View.{cols, cols_of};
 ghost use Rattle.pulls.specs.Pulls.{lent};
-ghost use Rattle.inplace.specs.Calls.{eight_of, streams_in, plan_of, begun_number, BeginsInPlace, GivesInPlace};
+ghost use Rattle.inplace.specs.Calls.{eight_of, streams_in, plan_of, BeginsInPlace, GivesInPlace};
+ghost use Rattle.runs.specs.Start.{start_of};
 
+use fields::NameList;
 use heads::Columns;
 pub use readers::{Tally, cedarlash_check_list, cedarlash_read_list, cedarlash_read_rows};
 pub use rules::Settings;
 use rules::Unbegun;
-use runs::Begins;
 pub use runs::{Mark, Run};
 pub use told::{Offered, Stopped};
 
@@ -28,94 +29,41 @@ pub struct Swept {
     pub last: Stopped,
 }
 
-// A run that was begun, and the refusal's number or 0.
-#[derive(Clone, Copy)]
-struct Begun {
-    run: Run,
-    number: u64,
-}
-
-// The number of what a start answers.
-fn begun_number(b: Begins) -> u64
-    ensures { result ≡ begun_number b }
-{
-    match b {
-        Begins::Begun => 0,
-        Begins::Refused(x) => match x {
-            Unbegun::Sizes => 1,
-            Unbegun::Names => 2,
-        },
-    }
-}
-
-// The number at the place k, 0 past the end.
-fn at_or_zero(s: &[usize], k: usize) -> usize
-    ensures { result ≡ get_or s.now k 0 }
-{
-    if k < s.len() {
-        return s[k];
-    }
-    0
-}
-
 // The first eight numbers, with 0 for those that are not there.
 fn eight_of(s: &[usize]) -> [usize; 8]
     ensures { result ≡ eight_of s.now }
 {
-    [
-        at_or_zero(s, 0),
-        at_or_zero(s, 1),
-        at_or_zero(s, 2),
-        at_or_zero(s, 3),
-        at_or_zero(s, 4),
-        at_or_zero(s, 5),
-        at_or_zero(s, 6),
-        at_or_zero(s, 7),
-    ]
+    let at = |k: usize| s.get(k).copied().unwrap_or(0);
+    [at(0), at(1), at(2), at(3), at(4), at(5), at(6), at(7)]
 }
 
 // How many streams there are: none where the two ends of their ranges are not of that number.
 fn streams_in(streams: usize, from: usize, to: usize) -> usize
     ensures { result ≡ streams_in streams from to }
 {
-    if (from == streams) & (to == streams) {
-        return streams;
+    if from == streams && to == streams {
+        streams
+    } else {
+        0
     }
-    0
 }
 
-// Begins a run: the run by value, and the number.
+// Begins a run whose streams' ranges stand in two columns.
 fn begin_run(
     settings: Settings,
     from: &[usize],
     to: &[usize],
-    text: &[u8],
-    names_from: &[usize],
-    names_to: &[usize],
-    chrom: &[u64],
-    start: &[u64],
-    stop: &[u64],
-) -> Begun
-    ensures { BeginsInPlace (plan_of settings from.now to.now text.now names_from.now names_to.now
-        (cols chrom.now start.now stop.now)) result.number result.run }
+    names: NameList,
+    columns: Columns,
+) -> Result<Run, Unbegun>
+    ensures { result ≡ start_of (plan_of settings from.now to.now names.entry.text.now names.entry.from.now names.entry.to.now (cols_of columns.entry)) }
 {
-    let streams = streams_in(settings.streams, from.len(), to.len());
     let fixed = Settings {
-        streams: streams,
+        streams: streams_in(settings.streams, from.len(), to.len()),
         chroms: settings.chroms,
         room: settings.room,
     };
-    let begins = eight_of(from);
-    let ends = eight_of(to);
-    let s = Run::start(
-        fixed, begins, ends, text, names_from, names_to, chrom, start, stop,
-    );
-    let run = s.run;
-    let b = s.begins;
-    Begun {
-        run: run,
-        number: begun_number(b),
-    }
+    Run::start(fixed, eight_of(from), eight_of(to), names, columns)
 }
 
 // Begins a run in place. Given are what is fixed from its start, for each stream where its rows begin and end in the lent columns of chromosomes, starts
@@ -136,11 +84,22 @@ pub extern "C" fn cedarlash_begin(
     ensures { BeginsInPlace (plan_of settings from.now to.now text.now names_from.now names_to.now
         (cols chrom.now start.now stop.now)) result run.new }
 {
-    let s = begin_run(
-        settings, from, to, text, names_from, names_to, chrom, start, stop,
-    );
-    *run = s.run;
-    s.number
+    let names = NameList {
+        text,
+        from: names_from,
+        to: names_to,
+    };
+    let columns = Columns { chrom, start, stop };
+    match begin_run(settings, from, to, names, columns) {
+        Ok(begun) => {
+            *run = begun;
+            0
+        }
+        Err(x) => {
+            *run = Run::none();
+            x.number()
+        }
+    }
 }
 
 // Gives the bases of three columns to the run in place, one base or many, one after the other, until one gets no records, or fewer answer rows are left

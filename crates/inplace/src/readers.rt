@@ -5,10 +5,9 @@ ghost use Rattle.chroms.specs.Check.{check_of, check_number};
 ghost use Rattle.rows.specs.Row.{rows_found, chrom_of, start_of, stop_of};
 ghost use Rattle.inplace.specs.Tally.{tally_of, Tallies};
 
-use chroms::Check;
-use fields::Reading;
+use fields::{NameList, ReadError};
 
-// How a reading ended: the refusal's number or 0, and the rows ahead of the end.
+// How a reading ended: the refusal's number or 0, and the rows ahead of the end. C's layout: numbers alone.
 #[repr(C)]
 #[derive(Clone, Copy)]
 pub struct Tally {
@@ -16,38 +15,18 @@ pub struct Tally {
     pub rows: usize,
 }
 
-// How a reading that answers so ended.
-fn tally_of(r: Reading) -> Tally
-    ensures { result ≡ tally_of r }
-{
-    match r {
-        Reading::Whole(n) => Tally {
-            refusal: 0,
-            rows: n,
-        },
-        Reading::Malformed(n) => Tally {
-            refusal: 11,
-            rows: n,
-        },
-        Reading::Full(n) => Tally {
-            refusal: 12,
-            rows: n,
-        },
-        Reading::Refused => Tally {
-            refusal: 1,
-            rows: 0,
-        },
-    }
-}
+impl From<Result<usize, ReadError>> for Tally {
+    ghost from_gives = { λ r t. t ≡ tally_of r };
 
-// The number of what a check of a list answers.
-fn check_number(c: Check) -> u64
-    ensures { result ≡ check_number c }
-{
-    match c {
-        Check::Fine => 0,
-        Check::Sizes => 1,
-        Check::Names => 2,
+    // How a reading that answers so ended.
+    fn from(r: Result<usize, ReadError>) -> Tally {
+        match r {
+            Ok(rows) => Tally { refusal: 0, rows },
+            Err(e) => Tally {
+                refusal: e.number(),
+                rows: e.rows(),
+            },
+        }
     }
 }
 
@@ -62,8 +41,7 @@ pub extern "C" fn cedarlash_read_list(
     ensures { Tallies from_of to_of len_of (list_found text.now (length from.old) (length to.old) (length len.old))
         from.old to.old len.old result from.new to.new len.new }
 {
-    let r = chroms::read_list(text, from, to, len);
-    tally_of(r)
+    Tally::from(chroms::read_list(text, from, to, len))
 }
 
 // Reads BED text to three columns: chromosome number, start and stop. The list is its text and, for each name, where it starts and ends
@@ -81,8 +59,12 @@ pub extern "C" fn cedarlash_read_rows(
     ensures { Tallies chrom_of start_of stop_of (rows_found text.now list.now from.now to.now (length chrom.old) (length start.old) (length stop.old))
         chrom.old start.old stop.old result chrom.new start.new stop.new }
 {
-    let r = rows::read_rows(text, list, from, to, chrom, start, stop);
-    tally_of(r)
+    let names = NameList {
+        text: list,
+        from,
+        to,
+    };
+    Tally::from(rows::read_rows(text, names, chrom, start, stop))
 }
 
 // Checks a list of names, given as where each starts and ends in a text: 1 for its sizes, 2 for its names, 0 for neither.
@@ -90,6 +72,8 @@ pub extern "C" fn cedarlash_read_rows(
 pub extern "C" fn cedarlash_check_list(text: &[u8], from: &[usize], to: &[usize]) -> u64
     ensures { result ≡ check_number (check_of text.now from.now to.now) }
 {
-    let c = chroms::check_list(text, from, to);
-    check_number(c)
+    match chroms::check_list(NameList { text, from, to }) {
+        Ok(()) => 0,
+        Err(x) => x.number(),
+    }
 }

@@ -62,7 +62,7 @@ impl From<Option<Answer>> for Stopped {
         match last {
             None => stops_by(0, 0, 0),
             Some(Answer::Found(_, _)) => stops_by(0, 0, 0),
-            Some(Answer::Refused(x)) => stops_by(measures::refusal_number(x), 0, 0),
+            Some(Answer::Refused(x)) => stops_by(x.number(), 0, 0),
             Some(Answer::Ended(End::Faulty(s, row))) => stops_by(7, s.0, row),
             Some(Answer::Ended(End::Unsorted(s, row))) => stops_by(8, s.0, row),
             Some(Answer::Ended(End::NoRoom)) => stops_by(9, 0, 0),

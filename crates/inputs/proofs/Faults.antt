@@ -17,18 +17,18 @@ use Rattle.fields.specs.Cut.{lines}
 use Rattle.fields.specs.Table.{End, whole, malformed, full, refused, passed, row_step, read_lines, read_text, answer, rows_of}
 use Rattle.fields.proofs.Naming.{names_length}
 use Rattle.chroms.specs.Check.{check_of}
-use Rattle.chroms.specs.declared.Check.TheVariants as check
+use Rattle.std.specs.Prelude.{Result, Ok, Err}
 use Rattle.runs.proofs.Starting.{names_agree}
+use Rattle.std.specs.Result.{result_and}
 use Rattle.inputs.specs.Texts.{end_fault, unbegun_fault, settings_in}
-use Rattle.inputs.specs.Read.{fault_by, first_of, verdict_at, check_verdict}
-use Rattle.inputs.specs.declared.Verdict.{Verdict}
-use Rattle.inputs.specs.declared.Verdict.TheVariants.{Fine, Fault}
+use Rattle.inputs.specs.Read.{fault_by, verdict_at, check_verdict}
+use Rattle.inputs.specs.declared.InputError.{InputError}
 
 -- ---- the first of two
 
-pub first_else : (a b : Verdict) → fault_by (first_of a b) ≡ else (fault_by a) (fault_by b)
-first_else Fine b = refl
-first_else (Fault number text ahead) b = refl
+pub first_else : {A : Type 0} (a : Result (Unit {0}) InputError) (b : Result A InputError) → fault_by (result_and a b) ≡ else (fault_by a) (fault_by b)
+first_else (Ok u) b = refl
+first_else (Err e) b = refl
 
 pub else_assoc : {A : Type 0} (a b c : Option A) → else (else a b) c ≡ else a (else b c)
 else_assoc none b c = refl
@@ -95,7 +95,7 @@ unfolding check_of refuses_start
 check_fault k list from to low high inside =
     rw (inside, names_length (length list) list from to inside, le-leb 1 k low, le-leb k 8 high, names_agree (names list from to)) (go (leb 1 (length from)) (leb (length from) 256) (misnamed (names list from to)))
   where
-    go : (a b m : Bool) → fault_by (check_verdict (cond (a && b) (cond (not m) check.Fine check.Names) check.Sizes)) ≡ unbegun_fault (cond (a && b && true) (cond m (some unbegun.Names) none) (some unbegun.Sizes))
+    go : (a b m : Bool) → fault_by (check_verdict (cond (a && b) (cond (not m) (Ok tt) (Err unbegun.Names)) (Err unbegun.Sizes))) ≡ unbegun_fault (cond (a && b && true) (cond m (some unbegun.Names) none) (some unbegun.Sizes))
     go true true true = refl
     go true true false = refl
     go true false m = refl

@@ -6,10 +6,12 @@ use native.Mathlib.Omega.{arith}
 use lib.ListN.{length, take, drop, length-take, length-drop}
 use Rattle.fields.specs.Names.{names, number_in}
 use Rattle.fields.specs.Table.{Found, read_text, answer, Fills}
-use Rattle.fields.specs.declared.Reading.{Reading}
+use Rattle.std.specs.Prelude.{Result}
+use Rattle.fields.specs.declared.ReadError.{ReadError}
+use Rattle.fields.specs.declared.NameList.{NameList}
 use Rattle.rows.specs.declared.Row.{Row}
 use Rattle.rows.specs.Row.{row_of, rows_found, chrom_of, start_of, stop_of}
-use Rattle.rows.proofs.Filled.{ready_if, rows_read}
+use Rattle.rows.proofs.Filled.{rows_read}
 use Rattle.heads.specs.View.{Cols, cols}
 use Rattle.inputs.specs.Texts.{rows_most, rows_in}
 use Rattle.inputs.specs.Read.{read_in, Slots, PartRead}
@@ -23,8 +25,8 @@ joined_to p e old back = take p old ++ (back ++ drop (e - p) (drop p old))
 abbrev lent_of : ℕ → ℕ → List ℕ → List ℕ
 lent_of p e old = take (e - p) (drop p old)
 
-module _ (text list from to : List ℕ) (p e : ℕ) (s : Cols) (r : Reading) (cs₁ cs₂ cs₃ : List ℕ) (slots : Slots list from to p s) (is-end : e ≡ p + rows_most)
-    (fills : Fills chrom_of start_of stop_of (rows_found text list from to (length (lent_of p e s.chrom)) (length (lent_of p e s.start)) (length (lent_of p e s.stop))) (lent_of p e s.chrom) (lent_of p e s.start) (lent_of p e s.stop) r cs₁ cs₂ cs₃) where
+module _ (text : List ℕ) (l : NameList) (p e : ℕ) (s : Cols) (r : Result ℕ ReadError) (cs₁ cs₂ cs₃ : List ℕ) (slots : Slots l.text.now l.from.now l.to.now p s) (is-end : e ≡ p + rows_most)
+    (fills : Fills chrom_of start_of stop_of (rows_found text l.text.now l.from.now l.to.now (length (lent_of p e s.chrom)) (length (lent_of p e s.start)) (length (lent_of p e s.stop))) (lent_of p e s.chrom) (lent_of p e s.start) (lent_of p e s.stop) r cs₁ cs₂ cs₃) where
   wide : e - p ≡ rows_most
   wide = omega (arith, is-end)
 
@@ -32,18 +34,17 @@ module _ (text list from to : List ℕ) (p e : ℕ) (s : Cols) (r : Reading) (cs
   lent_long old h = length-take (e - p) (drop p old) ∙ omega (arith, length-drop p old, slots.room, h, wide)
 
   abbrev ns : List (List ℕ)
-  ns = names list from to
+  ns = names l.text.now l.from.now l.to.now
 
   abbrev rows : List Row
   rows = (rows_in ns text).rows
 
-  found_is : rows_found text list from to (length (lent_of p e s.chrom)) (length (lent_of p e s.start)) (length (lent_of p e s.stop)) ≡ rows_in ns text
+  found_is : rows_found text l.text.now l.from.now l.to.now (length (lent_of p e s.chrom)) (length (lent_of p e s.start)) (length (lent_of p e s.stop)) ≡ rows_in ns text
   found_is =
       let a = lent_long s.chrom refl in
       let b = lent_long s.start slots.starts in
       let c = lent_long s.stop slots.stops in
-      rows_read (length (lent_of p e s.chrom)) (length (lent_of p e s.start)) (length (lent_of p e s.stop)) list from to text
-      (sym (ready_if (length (lent_of p e s.chrom)) (length (lent_of p e s.start)) (length (lent_of p e s.stop)) list from to (b ∙ sym a) (c ∙ sym a)) ∙ slots.inside)
+      rows_read text (length (lent_of p e s.chrom)) (length (lent_of p e s.start)) (length (lent_of p e s.stop)) l l refl (b ∙ sym a) (c ∙ sym a) slots.inside
       ∙ ap (λ (n : ℕ). read_text (row_of (number_in ns)) n text) a
 
   few : length rows ≤ rows_most
@@ -51,8 +52,8 @@ module _ (text list from to : List ℕ) (p e : ℕ) (s : Cols) (r : Reading) (cs
 
   -- a column is the filled one
   joined_filled : (f : Row → ℕ) (old back : List ℕ) →
-      back ≡ map f (rows_found text list from to (length (lent_of p e s.chrom)) (length (lent_of p e s.start)) (length (lent_of p e s.stop))).rows
-      ++ drop (length (rows_found text list from to (length (lent_of p e s.chrom)) (length (lent_of p e s.start)) (length (lent_of p e s.stop))).rows) (lent_of p e old) →
+      back ≡ map f (rows_found text l.text.now l.from.now l.to.now (length (lent_of p e s.chrom)) (length (lent_of p e s.start)) (length (lent_of p e s.stop))).rows
+      ++ drop (length (rows_found text l.text.now l.from.now l.to.now (length (lent_of p e s.chrom)) (length (lent_of p e s.start)) (length (lent_of p e s.stop))).rows) (lent_of p e old) →
       (fits : p + rows_most ≤ length old) → joined_to p e old back ≡ filled f rows p rows_most old fits few
   joined_filled f old back is fits =
       ap (λ (b : List ℕ). joined_to p e old b) (is ∙ ap (λ (g : Found Row). map f g.rows ++ drop (length g.rows) (lent_of p e old)) found_is)

@@ -16,15 +16,16 @@ use Rattle.fields.specs.Number.{Read, good, bad, number_of}
 use Rattle.fields.specs.Names.{part, within, names}
 use Rattle.fields.specs.Cut.{onto, cut, lines}
 use Rattle.fields.specs.Table.{Found, passed, row_step, read_lines, read_text, answer, rows_of, Fills}
-use Rattle.fields.specs.declared.Reading.{Reading}
+use Rattle.std.specs.Prelude.{Result}
+use Rattle.fields.specs.declared.ReadError.{ReadError}
 use Rattle.chroms.specs.declared.Entry.{Entry}
-use Rattle.chroms.specs.declared.Check.{Check}
 use Rattle.chroms.specs.Entry.{sized, entry_from, entry_of, list_found, from_of, to_of, len_of}
 use Rattle.chroms.specs.Check.{check_of}
 use Rattle.chroms.proofs.Entries.{list_read}
+use Rattle.std.specs.Result.{result_and}
 use Rattle.inputs.specs.Texts.{rows_most, entries_in, names_in, Fault, unbegun_fault, settings_in}
-use Rattle.inputs.specs.Read.{fault_by, first_of, verdict_at, check_verdict, Named, NamesRead}
-use Rattle.inputs.specs.declared.Verdict.{Verdict}
+use Rattle.inputs.specs.Read.{fault_by, verdict_at, check_verdict, Named, NamesRead}
+use Rattle.inputs.specs.declared.InputError.{InputError}
 use Rattle.inputs.proofs.Faults.{first_else, text_few, text_count, read_fault, check_fault}
 
 -- ---- lines and fields are no longer than what they part
@@ -96,7 +97,7 @@ names_map list (e ∷ es) = ap (λ (l : List (List ℕ)). part e.from e.to list 
 pub names_few : (list : List ℕ) → length (entries_in list).rows ≤ rows_most
 names_few list = text_few entry_of rows_most list
 
-module _ (list from to len : List ℕ) (r : Reading) (from' to' len' : List ℕ) (lf : length from ≡ rows_most) (lt : length to ≡ rows_most) (ll : length len ≡ rows_most)
+module _ (list from to len : List ℕ) (r : Result ℕ ReadError) (from' to' len' : List ℕ) (lf : length from ≡ rows_most) (lt : length to ≡ rows_most) (ll : length len ≡ rows_most)
     (fills : Fills from_of to_of len_of (list_found list (length from) (length to) (length len)) from to len r from' to' len') where
   found_is : list_found list (length from) (length to) (length len) ≡ entries_in list
   found_is = list_read list (length from) (length to) (length len) (lt ∙ sym lf) (ll ∙ sym lf) ∙ ap (λ (n : ℕ). read_text entry_of n list) lf
@@ -151,20 +152,19 @@ module _ (list from to len : List ℕ) (r : Reading) (from' to' len' : List ℕ)
   abbrev judged : ℕ → List (List ℕ) → Option Fault
   judged k ns = unbegun_fault (refuses_start (settings_in k ns) ns)
 
-  pub names_read : NamesRead list (record { verdict = first_of (verdict_at 0 r) (check_verdict (check_of list (take (rows_of r) from') (take (rows_of r) to'))); count = rows_of r }) from' to' len'
+  pub names_read : NamesRead list (record { verdict = result_and (verdict_at 0 r) (check_verdict (check_of list (take (rows_of r) from') (take (rows_of r) to'))); count = rows_of r }) from' to' len'
   names_read = record {
     verdict = λ k low high.
         first_else (verdict_at 0 r) (check_verdict (check_of list (take (rows_of r) from') (take (rows_of r) to')))
         ∙ ap (λ (o : Option Fault). else (fault_by (verdict_at 0 r)) o) (check_fault k list (take (rows_of r) from') (take (rows_of r) to') low high inside ∙ ap (judged k) names_named.named)
-        ∙ ap (λ (o : Option Fault). else o (judged k (names_in list))) (ap (λ (x : Reading). fault_by (verdict_at 0 x)) answered ∙ read_fault 0 (entries_in list).end (length rows));
+        ∙ ap (λ (o : Option Fault). else o (judged k (names_in list))) (ap (λ (x : Result ℕ ReadError). fault_by (verdict_at 0 x)) answered ∙ read_fault 0 (entries_in list).end (length rows));
     columns = names_named;
   }
 
   -- the same, from what each call answers
-  pub names_got : {n : ℕ} {c : Check} {a b v : Verdict} → n ≡ rows_of r → c ≡ check_of list (take n from') (take n to') → a ≡ verdict_at 0 r → b ≡ check_verdict c → v ≡ first_of a b → NamesRead list (record { verdict = v; count = n }) from' to' len'
-  names_got {n} {c} {a} {b} {v} hn hc ha hb hv =
-      let is-check : c ≡ check_of list (take (rows_of r) from') (take (rows_of r) to') = hc ∙ ap (λ (k : ℕ). check_of list (take k from') (take k to')) hn in
-      let is : v ≡ first_of (verdict_at 0 r) (check_verdict (check_of list (take (rows_of r) from') (take (rows_of r) to'))) = hv ∙ rw (ha, hb, is-check) in
+  pub names_got : {n : ℕ} {a b v : Result (Unit {0}) InputError} → n ≡ rows_of r → b ≡ check_verdict (check_of list (take n from') (take n to')) → a ≡ verdict_at 0 r → v ≡ result_and a b → NamesRead list (record { verdict = v; count = n }) from' to' len'
+  names_got {n} {a} {b} {v} hn hb ha hv =
+      let is : v ≡ result_and (verdict_at 0 r) (check_verdict (check_of list (take (rows_of r) from') (take (rows_of r) to'))) = hv ∙ rw (ha, hb, hn) in
       rw (is, hn) names_read
 
   -- the columns hold them

@@ -200,3 +200,6 @@ sizes_test bytes ends = go (parts_all (length bytes) 0 ends) refl
 -- "First 1 for text size or stream count", by the ends
 pub texts_sizes : (bytes ends : List ℕ) → sizes_fault (texts_of bytes ends) ≡ cond (sized_by (length bytes) ends) none (some (fault 1 0 0))
 texts_sizes bytes ends = ap (λ (t : Bool). cond t none (some (fault 1 0 0))) (sizes_test bytes ends)
+
+-- what a test of ends meets
+pub ruleset partings = (parting_start, parting_falls, parting_next, parting_end)

@@ -11,14 +11,17 @@ use Rattle.basics.specs.Build.{build}
 use Rattle.rules.specs.Streams.{else}
 use Rattle.fields.specs.Names.{part, number_in, names}
 use Rattle.fields.specs.Table.{rows_of}
-use Rattle.fields.specs.declared.Reading.{Reading}
+use Rattle.std.specs.Prelude.{Result, Ok, Err, IfOk}
+use Rattle.fields.specs.declared.ReadError.{ReadError}
 use Rattle.rows.specs.Row.{row_of}
 use Rattle.heads.specs.View.{Cols}
+use Rattle.std.specs.Result.{result_and}
 use Rattle.inputs.specs.Texts.{Texts, Fault, fault, rows_most, names_in, rows_in, base_from, bases_of, streams_in, found_fault, list_fault, streams_fault, sizes_fault, fault_of}
 use Rattle.inputs.specs.Parted.{stream_texts, texts_of, sized_by}
-use Rattle.inputs.specs.Read.{fault_by, first_of, verdict_at, NamesRead, read_in, base_in, Slots, PartRead, Readable, StreamsRead, Rooms, Reads}
-use Rattle.inputs.specs.declared.Verdict.{Verdict}
-use Rattle.inputs.specs.declared.Verdict.TheVariants as verdict
+use Rattle.inputs.specs.Read.{fault_by, verdict_at, NamesRead, read_in, base_in, Slots, PartRead, Readable, StreamsRead, Rooms, Reads}
+use Rattle.inputs.specs.declared.InputError.{InputError}
+use Rattle.inputs.specs.declared.InputError.TheVariants.{Sizes}
+use Rattle.inputs.specs.declared.Read.{Read}
 use Rattle.inputs.specs.declared.Names.{Names}
 use Rattle.inputs.specs.declared.Streams.{Streams}
 use Rattle.inputs.proofs.Columns.{map_build}
@@ -26,14 +29,13 @@ use Rattle.inputs.proofs.Parting.{Sized, sized_says, ends_follow, ends_inside, s
 use Rattle.inputs.proofs.Faults.{first_else, text_count, read_fault}
 
 -- the texts whose sizes are not right: nothing is read
-pub texts_refused : (bytes ends from to len tops : List ℕ) (b s : Cols) → sized_by (length bytes) ends ≡ false → Rooms from to len b s → length tops ≡ 8 →
-    Reads (texts_of bytes ends) (record { verdict = verdict.Fault 1 0 0; names = 0; bases = 0; streams = 0; to = tops }) from to len b s
+pub texts_refused : (bytes ends from to len : List ℕ) (b s : Cols) → sized_by (length bytes) ends ≡ false → Rooms from to len b s →
+    Reads (texts_of bytes ends) (Err Sizes) from to len b s
 unfolding fault_of
-texts_refused bytes ends from to len tops b s e rooms eight =
+texts_refused bytes ends from to len b s e rooms =
     let sizes : sizes_fault (texts_of bytes ends) ≡ some (fault 1 0 0) = texts_sizes bytes ends ∙ ap (λ (u : Bool). cond u none (some (fault 1 0 0))) e in
     record {
       fault = sym (ap (λ (o : Option Fault). else o (else (list_fault (length (texts_of bytes ends).streams) (texts_of bytes ends).list) (else (found_fault 1 (rows_in (names_in (texts_of bytes ends).list) (texts_of bytes ends).bases)) (streams_fault (names_in (texts_of bytes ends).list) 2 (texts_of bytes ends).streams)))) sizes);
-      eight = eight;
       rooms = rooms;
       columns = λ h. absurd (differ (sym h ∙ sizes));
     }
@@ -74,7 +76,7 @@ module _ {list from to len : List ℕ} {named : Names} (hn : NamesRead list name
   count_to h = omega (arith, hn.columns.few)
 
 -- the texts whose sizes are right
-module _ (bytes ends from to len : List ℕ) (b₀ b s : Cols) (named : Names) (r : Reading) (st : Streams) (ok : sized_by (length bytes) ends ≡ true) where
+module _ (bytes ends from to len : List ℕ) (b₀ b s : Cols) (named : Names) (r : Result ℕ ReadError) (st : Streams) (ok : sized_by (length bytes) ends ≡ true) where
   abbrev a : ℕ
   a = get_or ends 0 0
 
@@ -109,12 +111,12 @@ module _ (bytes ends from to len : List ℕ) (b₀ b s : Cols) (named : Names) (
 
   module _ (hn : NamesRead list named from to len) (lf : length from ≡ rows_most) (lt : length to ≡ rows_most) (ll : length len ≡ rows_most)
       (hb : PartRead ns bases 0 b₀ r b) (bc : length b₀.chrom ≡ rows_most) (bs : length b₀.start ≡ rows_most) (be : length b₀.stop ≡ rows_most)
-      (hs : StreamsRead ns streams st s) (x y v : Verdict) (n m : ℕ) (hx : x ≡ verdict_at 1 r) (hy : y ≡ first_of x st.verdict) (hv : v ≡ first_of named.verdict y) (hr : n ≡ rows_of r) (hm : m ≡ length ends - 2) where
+      (hs : StreamsRead ns streams st s) (x y v : Result (Unit {0}) InputError) (n m : ℕ) (hx : x ≡ verdict_at 1 r) (hy : y ≡ result_and x st.verdict) (hv : v ≡ result_and named.verdict y) (hr : n ≡ rows_of r) (hm : m ≡ length ends - 2) where
     abbrev same : ns ≡ names_in list
     same = hn.columns.named
 
     base_wrong : fault_by (verdict_at 1 r) ≡ found_fault 1 (rows_in (names_in list) bases)
-    base_wrong = ap (λ (z : Reading). fault_by (verdict_at 1 z)) hb.answered ∙ read_fault 1 (rows_in ns bases).end (length (rows_in ns bases).rows) ∙ ap (λ (k : List (List ℕ)). found_fault 1 (rows_in k bases)) same
+    base_wrong = ap (λ (z : Result ℕ ReadError). fault_by (verdict_at 1 z)) hb.answered ∙ read_fault 1 (rows_in ns bases).end (length (rows_in ns bases).rows) ∙ ap (λ (k : List (List ℕ)). found_fault 1 (rows_in k bases)) same
 
     sizes : sizes_fault texts ≡ none
     sizes = ap sizes_fault (sym texts_are) ∙ texts_sizes bytes ends ∙ ap (λ (u : Bool). cond u none (some (fault 1 0 0))) ok
@@ -140,10 +142,13 @@ module _ (bytes ends from to len : List ℕ) (b₀ b s : Cols) (named : Names) (
         ∙ ap (map base_from) hb.rows
         ∙ ap (λ (k : List (List ℕ)). map base_from (rows_in k bases).rows) same
 
-    pub texts_read : Reads (texts_of bytes ends) (record { verdict = v; names = named.count; bases = n; streams = m; to = st.to }) from to len b s
-    texts_read = subst (λ (t : Texts). Reads t (record { verdict = v; names = named.count; bases = n; streams = m; to = st.to }) from to len b s) (sym texts_are) (record {
-      fault = wrong;
-      eight = hs.eight;
+    abbrev found : Read
+    found = record { names = named.count; bases = n; streams = m; to = st.to }
+
+    -- the answer: what is wrong, or what was read
+    texts_answer : (z : Result Read InputError) → fault_by z ≡ fault_by v → IfOk z (λ u. u ≡ found) → Reads texts z from to len b s
+    texts_answer z wrong_so read_so = record {
+      fault = wrong_so ∙ wrong;
       rooms = record {
         names_from = lf;
         names_to = lt;
@@ -156,12 +161,23 @@ module _ (bytes ends from to len : List ℕ) (b₀ b s : Cols) (named : Names) (
         stop = hs.stop;
       };
       columns = λ h. record {
-        names = hn.columns;
-        few = omega (arith, rows_count, hb.few);
-        bases = base_rows;
-        streams = omega (arith, hm, count);
-        rows = hs.rows ∙ ap (λ (k : List (List ℕ)). streams_in k streams) same;
-        low = hs.low;
-        high = hs.high;
+        read = found;
+        is = read_so;
+        eight = hs.eight;
+        columns = record {
+          names = hn.columns;
+          few = omega (arith, rows_count, hb.few);
+          bases = base_rows;
+          streams = omega (arith, hm, count);
+          rows = hs.rows ∙ ap (λ (k : List (List ℕ)). streams_in k streams) same;
+          low = hs.low;
+          high = hs.high;
+        };
       };
-    })
+    }
+
+    pub texts_wrong : (e : InputError) → v ≡ Err e → Reads (texts_of bytes ends) (Err e) from to len b s
+    texts_wrong e q = subst (λ (t : Texts). Reads t (Err e) from to len b s) (sym texts_are) (texts_answer (Err e) (sym (ap fault_by q)) tt)
+
+    pub texts_read : {u : Unit {0}} → v ≡ Ok u → Reads (texts_of bytes ends) (Ok found) from to len b s
+    texts_read q = subst (λ (t : Texts). Reads t (Ok found) from to len b s) (sym texts_are) (texts_answer (Ok found) (sym (ap fault_by q)) (let same_read : found ≡ found = λ i. found in same_read))

@@ -13,14 +13,15 @@ use Rattle.rules.specs.declared.Row as rules
 use Rattle.rules.specs.Streams.{else}
 use Rattle.fields.specs.Table.{rows_of}
 use Rattle.fields.specs.Names.{part, number_in}
-use Rattle.fields.specs.declared.Reading.{Reading}
+use Rattle.std.specs.Prelude.{Result, Ok}
+use Rattle.fields.specs.declared.ReadError.{ReadError}
 use Rattle.rows.specs.Row.{row_of}
 use Rattle.heads.specs.View.{Cols}
 use Rattle.runs.specs.Start.{row_in, streams_of}
+use Rattle.std.specs.Result.{result_and}
 use Rattle.inputs.specs.Texts.{Fault, rows_most, rows_in, row_from, streams_in, found_fault, streams_fault}
-use Rattle.inputs.specs.Read.{fault_by, first_of, verdict_at, places, read_in, Slots, PartRead, Readable, StreamsRead}
-use Rattle.inputs.specs.declared.Verdict.{Verdict}
-use Rattle.inputs.specs.declared.Verdict.TheVariants.{Fine}
+use Rattle.inputs.specs.Read.{fault_by, verdict_at, places, read_in, Slots, PartRead, Readable, StreamsRead}
+use Rattle.inputs.specs.declared.InputError.{InputError}
 use Rattle.inputs.specs.Parted.{stream_texts}
 use Rattle.inputs.proofs.Parting.{Sized, sized_says, streams_count, streams_get, ends_follow, ends_inside}
 use Rattle.inputs.proofs.Columns.{read_back, get_map, map_build}
@@ -63,7 +64,7 @@ module _ {bytes ends list from to : List ℕ} {s : Cols} (h : Readable bytes end
     stream_slots e = record { inside = h.inside; starts = e.start ∙ sym e.chrom; stops = e.stop ∙ sym e.chrom; room = omega (arith, e.chrom, size.few) }
 
 -- the first k streams are read
-pub record Streaming (ns ss : List (List ℕ)) (s : Cols) (v : Verdict) (tops : List ℕ) (k : ℕ) : Type 0 where
+pub record Streaming (ns ss : List (List ℕ)) (s : Cols) (v : Result (Unit {0}) InputError) (tops : List ℕ) (k : ℕ) : Type 0 where
   pub inside : k ≤ length ss
   pub even : Even s
   pub eight : length tops ≡ 8
@@ -73,7 +74,7 @@ pub record Streaming (ns ss : List (List ℕ)) (s : Cols) (v : Verdict) (tops : 
   pub high : (j : ℕ) → j < k → get_or tops j 0 ≤ j * rows_most + rows_most
   pub done : (j : ℕ) → j < k → build (read_in s) (get_or tops j 0 - j * rows_most) (j * rows_most) ≡ (rows_in ns (get_or ss j [])).rows
 
-pub streaming_start : (ns ss : List (List ℕ)) (s : Cols) (tops : List ℕ) → Even s → length tops ≡ 8 → Streaming ns ss s Fine tops 0
+pub streaming_start : (ns ss : List (List ℕ)) (s : Cols) (tops : List ℕ) → Even s → length tops ≡ 8 → Streaming ns ss s (Ok tt) tops 0
 streaming_start ns ss s tops even eight = record {
   inside = omega arith;
   even = even;
@@ -85,7 +86,7 @@ streaming_start ns ss s tops even eight = record {
 }
 
 -- the text of stream k is read from place p on
-module _ {ns ss : List (List ℕ)} {s s' : Cols} {v : Verdict} {tops : List ℕ} {k p : ℕ} {r : Reading} {text : List ℕ} (w : Streaming ns ss s v tops k) (below : k < length ss) (few : length ss ≤ 8) (at : p ≡ k * rows_most)
+module _ {ns ss : List (List ℕ)} {s s' : Cols} {v : Result (Unit {0}) InputError} {tops : List ℕ} {k p : ℕ} {r : Result ℕ ReadError} {text : List ℕ} (w : Streaming ns ss s v tops k) (below : k < length ss) (few : length ss ≤ 8) (at : p ≡ k * rows_most)
     (is : text ≡ get_or ss k []) (got : PartRead ns text p s r s') where
   count : rows_of r ≡ length (rows_in ns text).rows
   count = ap rows_of got.answered ∙ text_count (row_of (number_in ns)) rows_most text
@@ -95,9 +96,9 @@ module _ {ns ss : List (List ℕ)} {s s' : Cols} {v : Verdict} {tops : List ℕ}
   top = p + rows_of r
 
   wrong : fault_by (verdict_at (k + 2) r) ≡ found_fault (k + 2) (rows_in ns text)
-  wrong = ap (λ (x : Reading). fault_by (verdict_at (k + 2) x)) got.answered ∙ read_fault (k + 2) (rows_in ns text).end (length (rows_in ns text).rows)
+  wrong = ap (λ (x : Result ℕ ReadError). fault_by (verdict_at (k + 2) x)) got.answered ∙ read_fault (k + 2) (rows_in ns text).end (length (rows_in ns text).rows)
 
-  rest_next : else (fault_by (first_of v (verdict_at (k + 2) r))) (streams_fault ns (k + 1 + 2) (drop (k + 1) ss)) ≡ streams_fault ns 2 ss
+  rest_next : else (fault_by (result_and v (verdict_at (k + 2) r))) (streams_fault ns (k + 1 + 2) (drop (k + 1) ss)) ≡ streams_fault ns 2 ss
   rest_next =
       let one : suc k ≡ k + 1 = omega arith in
       let next : suc (k + 2) ≡ k + 1 + 2 = omega arith in
@@ -117,7 +118,7 @@ module _ {ns ss : List (List ℕ)} {s s' : Cols} {v : Verdict} {tops : List ℕ}
   top_other : (j : ℕ) → j < k → get_or (set tops k top) j 0 ≡ get_or tops j 0
   top_other j h = get_or-set_other tops k j top 0 (λ e. omega arith)
 
-  pub streaming_next : Streaming ns ss s' (first_of v (verdict_at (k + 2) r)) (set tops k top) (k + 1)
+  pub streaming_next : Streaming ns ss s' (result_and v (verdict_at (k + 2) r)) (set tops k top) (k + 1)
   streaming_next = record {
     inside = omega arith;
     even = record { chrom = got.kept.chrom ∙ w.even.chrom; start = got.kept.start ∙ w.even.start; stop = got.kept.stop ∙ w.even.stop };
@@ -146,9 +147,9 @@ module _ {ns ss : List (List ℕ)} {s s' : Cols} {v : Verdict} {tops : List ℕ}
           rw (e, top_own, n, sym at, sym is) got.rows
 
   -- the same, from what each call answers
-  pub streaming_got : {n : ℕ} {x v' : Verdict} → n ≡ rows_of r → x ≡ verdict_at (k + 2) r → v' ≡ first_of v x → Streaming ns ss s' v' (set tops k (p + n)) (k + 1)
+  pub streaming_got : {n : ℕ} {x v' : Result (Unit {0}) InputError} → n ≡ rows_of r → x ≡ verdict_at (k + 2) r → v' ≡ result_and v x → Streaming ns ss s' v' (set tops k (p + n)) (k + 1)
   streaming_got {n} {x} {v'} hn hx hv =
-      let is-first : v' ≡ first_of v (verdict_at (k + 2) r) = hv ∙ ap (first_of v) hx in
+      let is-first : v' ≡ result_and v (verdict_at (k + 2) r) = hv ∙ ap (result_and v) hx in
       rw (is-first, hn) streaming_next
 
   pub streaming_top : {n : ℕ} → n ≡ rows_of r → n ≤ rows_most
@@ -173,7 +174,7 @@ else_none (some x) = refl
 abbrev given : List (List ℕ) → List ℕ → List rules.Row
 given ns text = map row_from (rows_in ns text).rows
 
-pub streaming_end : {ns ss : List (List ℕ)} {s : Cols} {v : Verdict} {tops : List ℕ} {k : ℕ} → Streaming ns ss s v tops k → length ss ≤ k → length ss ≤ 8 → StreamsRead ns ss (record { verdict = v; to = tops }) s
+pub streaming_end : {ns ss : List (List ℕ)} {s : Cols} {v : Result (Unit {0}) InputError} {tops : List ℕ} {k : ℕ} → Streaming ns ss s v tops k → length ss ≤ k → length ss ≤ 8 → StreamsRead ns ss (record { verdict = v; to = tops }) s
 streaming_end {ns} {ss} {s} {v} {tops} {k} w over few =
     let all : k ≡ length ss = omega (arith, w.inside) in
     record {

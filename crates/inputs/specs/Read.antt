@@ -1,48 +1,53 @@
 -- What reading the texts gives: what is wrong before the run, and the columns of names, bases and rows.
-use Rattle.std.specs.Prelude.{◌≡◌, true, List, [], ◌∷◌, ℕ, ◌+◌, ◌*◌, ◌≤◌, ◌<◌, length, get_or, take}
+use Rattle.std.specs.Prelude.{◌≡◌, true, List, [], ◌∷◌, ℕ, ◌+◌, ◌*◌, ◌≤◌, ◌<◌, length, get_or, take, Result, Ok, Err, IfOk}
 use Rattle.std.proofs.Math.Option.{Option, none, some}
 use Rattle.basics.specs.Build.{build}
 use Rattle.rules.specs.declared.Base.{Base}
-use Rattle.fields.specs.declared.Reading.{Reading}
-use Rattle.fields.specs.declared.Reading.TheVariants.{Whole, Malformed, Full, Refused}
+use Rattle.fields.specs.declared.ReadError.{ReadError}
+use Rattle.fields.specs.declared.ReadError.TheVariants as read
 use Rattle.fields.specs.Names.{within, names}
 use Rattle.fields.specs.Table.{answer}
 use Rattle.rows.specs.declared.Row.{Row}
-use Rattle.chroms.specs.declared.Check.{Check}
-use Rattle.chroms.specs.declared.Check.TheVariants as check
+use Rattle.rules.specs.declared.Unbegun.{Unbegun}
+use Rattle.rules.specs.declared.Unbegun.TheVariants as unbegun
 use Rattle.heads.specs.View.{Cols}
 use Rattle.runs.specs.Start.{streams_of}
 use Rattle.inputs.specs.Texts.{Texts, Fault, fault, rows_most, names_in, lens_in, rows_in, bases_of, streams_in, list_fault, streams_fault, fault_of, sizes_fault}
 use Rattle.inputs.specs.Parted.{sized_by}
-use Rattle.inputs.specs.declared.Verdict.{Verdict}
-use Rattle.inputs.specs.declared.Verdict.TheVariants as verdict
-use Rattle.inputs.specs.declared.Names.{Names}
+use Rattle.inputs.specs.declared.InputError.{InputError}
+use Rattle.inputs.specs.declared.InputError.TheVariants.{Sizes, Names, Malformed, Full}
+use Rattle.inputs.specs.declared.Names as names
 use Rattle.inputs.specs.declared.Streams.{Streams}
 use Rattle.inputs.specs.declared.Read.{Read}
 
 -- ---- what is wrong
 
-abbrev pub fault_by : Verdict → Option Fault
-fault_by verdict.Fine = none
-fault_by (verdict.Fault number text ahead) = some (fault number text ahead)
+-- an error as the document's fault
+abbrev pub told : InputError → Fault
+told Sizes = fault 1 0 0
+told Names = fault 2 0 0
+told (Malformed text ahead) = fault 11 text ahead
+told (Full text ahead) = fault 12 text ahead
 
--- the first of two
-abbrev pub first_of : Verdict → Verdict → Verdict
-first_of verdict.Fine v = v
-first_of (verdict.Fault number text ahead) v = verdict.Fault number text ahead
+abbrev pub fault_by : {A : Type 0} → Result A InputError → Option Fault
+fault_by (Ok x) = none
+fault_by (Err e) = some (told e)
 
 -- 11 and 12 of a text, by how its reading ended
-abbrev pub verdict_at : ℕ → Reading → Verdict
-verdict_at k (Whole n) = verdict.Fine
-verdict_at k (Malformed n) = verdict.Fault 11 k n
-verdict_at k (Full n) = verdict.Fault 12 k n
-verdict_at k Refused = verdict.Fault 1 0 0
+abbrev pub verdict_at : ℕ → Result ℕ ReadError → Result (Unit {0}) InputError
+verdict_at k (Ok n) = Ok tt
+verdict_at k (Err (read.Malformed n)) = Err (Malformed k n)
+verdict_at k (Err (read.Full n)) = Err (Full k n)
+verdict_at k (Err read.Refused) = Err Sizes
 
 -- 1 and 2 of the list
-abbrev pub check_verdict : Check → Verdict
-check_verdict check.Fine = verdict.Fine
-check_verdict check.Sizes = verdict.Fault 1 0 0
-check_verdict check.Names = verdict.Fault 2 0 0
+abbrev pub error_by : Unbegun → InputError
+error_by unbegun.Sizes = Sizes
+error_by unbegun.Names = Names
+
+abbrev pub check_verdict : Result (Unit {0}) Unbegun → Result (Unit {0}) InputError
+check_verdict (Ok u) = Ok tt
+check_verdict (Err x) = Err (error_by x)
 
 -- ---- the columns
 
@@ -53,7 +58,7 @@ pub record Named (list : List ℕ) (n : ℕ) (from to len : List ℕ) : Type 0 w
   pub named : names list (take n from) (take n to) ≡ names_in list
   pub lengths : take n len ≡ lens_in list
 
-pub record NamesRead (list : List ℕ) (r : Names) (from to len : List ℕ) : Type 0 where
+pub record NamesRead (list : List ℕ) (r : names.Names) (from to len : List ℕ) : Type 0 where
   pub verdict : (k : ℕ) → 1 ≤ k → k ≤ 8 → fault_by r.verdict ≡ list_fault k list
   pub columns : Named list r.count from to len
 
@@ -82,7 +87,7 @@ pub record Kept (s s' : Cols) : Type 0 where
   pub stop : length s'.stop ≡ length s.stop
 
 -- the rows of a text, of these names, stand in the columns from place p on; those ahead of it are as they were
-pub record PartRead (ns : List (List ℕ)) (text : List ℕ) (p : ℕ) (s : Cols) (r : Reading) (s' : Cols) : Type 0 where
+pub record PartRead (ns : List (List ℕ)) (text : List ℕ) (p : ℕ) (s : Cols) (r : Result ℕ ReadError) (s' : Cols) : Type 0 where
   pub answered : r ≡ answer (rows_in ns text).end (length (rows_in ns text).rows)
   pub few : length (rows_in ns text).rows ≤ rows_most
   pub rows : build (read_in s') (length (rows_in ns text).rows) p ≡ (rows_in ns text).rows
@@ -130,8 +135,14 @@ pub record Rooms (from to len : List ℕ) (b s : Cols) : Type 0 where
   pub start : length s.start ≡ 8 * rows_most
   pub stop : length s.stop ≡ 8 * rows_most
 
-pub record Reads (t : Texts) (r : Read) (from to len : List ℕ) (b s : Cols) : Type 0 where
-  pub fault : fault_by r.verdict ≡ fault_of t
-  pub eight : length r.to ≡ 8
+-- what the columns hold of texts whose sizes are right, whatever is wrong with them; where nothing is, this is what the answer says
+pub record Held (t : Texts) (r : Result Read InputError) (from to len : List ℕ) (b s : Cols) : Type 0 where
+  pub read : Read
+  pub is : IfOk r (λ x. x ≡ read)
+  pub eight : length read.to ≡ 8
+  pub columns : Columns t read from to len b s
+
+pub record Reads (t : Texts) (r : Result Read InputError) (from to len : List ℕ) (b s : Cols) : Type 0 where
+  pub fault : fault_by r ≡ fault_of t
   pub rooms : Rooms from to len b s
-  pub columns : sizes_fault t ≡ none → Columns t r from to len b s
+  pub columns : sizes_fault t ≡ none → Held t r from to len b s

@@ -3,106 +3,140 @@
 #![tactic(auto)]
 
 ghost use Rattle.std.specs.Prelude.{◌≡◌, true, ◌+◌, ◌*◌, ◌≤◌, length};
-ghost use Rattle.fields.specs.Names.{within, names};
+ghost use Rattle.fields.specs.Names.{listed};
 ghost use Rattle.fields.specs.Table.{rows_of};
+ghost use Rattle.chroms.specs.Check.{check_of};
 ghost use Rattle.heads.specs.View.{cols};
 ghost use Rattle.inputs.specs.Texts.{rows_most};
 ghost use Rattle.inputs.specs.Parted.{parts_all, stream_texts, texts_of, sized_by};
-ghost use Rattle.inputs.specs.Read.{first_of, verdict_at, check_verdict, NamesRead, Slots, PartRead, Readable, StreamsRead, Rooms, Reads};
+ghost use Rattle.inputs.specs.Read.{told, error_by, verdict_at, check_verdict, NamesRead, Slots, PartRead, Readable, StreamsRead, Rooms, Reads};
 
-use chroms::Check;
-use fields::Reading;
-use rules::Settings;
+use fields::{NameList, ReadError};
+use rules::{Settings, Unbegun};
 
-// What is wrong before the run: nothing, or a refusal's number, the text's number and the rows ahead.
-#[derive(Clone, Copy)]
-pub enum Verdict {
-    Fine,
-    Fault(u64, u64, u64),
+// What is wrong before the run.
+#[derive(Clone, Copy, PartialEq, Eq)]
+pub enum InputError {
+    // 1: the size of the texts, the count of streams or the count of names.
+    Sizes,
+    // 2: a chromosome name is empty, too long or there twice.
+    Names,
+    // 11: a line is malformed; the text's number and the rows ahead.
+    Malformed(u64, u64),
+    // 12: one good row more than the slots; the text's number and the rows ahead.
+    Full(u64, u64),
+}
+
+impl InputError {
+    // The refusal's number.
+    pub fn number(self) -> u64
+        ensures { result ≡ (told self).number }
+    {
+        match self {
+            InputError::Sizes => 1,
+            InputError::Names => 2,
+            InputError::Malformed(_, _) => 11,
+            InputError::Full(_, _) => 12,
+        }
+    }
+
+    // The text's number: 0 is the list, 1 the bases, 2 and up the streams; and 0 where none is named.
+    pub fn text(self) -> u64
+        ensures { result ≡ (told self).text }
+    {
+        match self {
+            InputError::Malformed(text, _) | InputError::Full(text, _) => text,
+            InputError::Sizes | InputError::Names => 0,
+        }
+    }
+
+    // The rows ahead in that text.
+    pub fn ahead(self) -> u64
+        ensures { result ≡ (told self).ahead }
+    {
+        match self {
+            InputError::Malformed(_, ahead) | InputError::Full(_, ahead) => ahead,
+            InputError::Sizes | InputError::Names => 0,
+        }
+    }
+}
+
+// What a list is refused for.
+impl From<Unbegun> for InputError {
+    ghost from_gives = { λ x e. e ≡ error_by x };
+
+    fn from(x: Unbegun) -> InputError {
+        match x {
+            Unbegun::Sizes => InputError::Sizes,
+            Unbegun::Names => InputError::Names,
+        }
+    }
 }
 
 // What is wrong with the list, and how many names there are.
 #[derive(Clone, Copy)]
 struct Names {
-    verdict: Verdict,
+    verdict: Result<(), InputError>,
     count: usize,
 }
 
 // What is wrong with the streams, and where each one's rows end in the columns.
 #[derive(Clone, Copy)]
 struct Streams {
-    verdict: Verdict,
+    verdict: Result<(), InputError>,
     to: [usize; 8],
 }
 
-// What is wrong, how many names, bases and streams there are, and where each stream's rows end in the columns.
+// How many names, bases and streams there are, and where each stream's rows end in the columns.
 #[derive(Clone, Copy)]
 pub struct Read {
-    pub verdict: Verdict,
     pub names: usize,
     pub bases: usize,
     pub streams: usize,
     pub to: [usize; 8],
 }
 
-// The first of two faults.
-fn first(a: Verdict, b: Verdict) -> Verdict
-    ensures { result ≡ first_of a b }
-{
-    match a {
-        Verdict::Fine => b,
-        Verdict::Fault(number, text, ahead) => Verdict::Fault(number, text, ahead),
-    }
-}
-
 // What is wrong with text k, by how its reading ended.
-fn verdict_at(k: u64, r: Reading) -> Verdict
+fn verdict_at(k: u64, r: Result<usize, ReadError>) -> Result<(), InputError>
     ensures { result ≡ verdict_at k r }
 {
     match r {
-        Reading::Whole(n) => Verdict::Fine,
-        Reading::Malformed(n) => Verdict::Fault(11, k, n as u64),
-        Reading::Full(n) => Verdict::Fault(12, k, n as u64),
-        Reading::Refused => Verdict::Fault(1, 0, 0),
+        Ok(_) => Ok(()),
+        Err(ReadError::Malformed(n)) => Err(InputError::Malformed(k, n as u64)),
+        Err(ReadError::Full(n)) => Err(InputError::Full(k, n as u64)),
+        Err(ReadError::Refused) => Err(InputError::Sizes),
     }
 }
 
 // How many rows were read.
-fn rows_ahead(r: Reading) -> usize
+fn rows_ahead(r: Result<usize, ReadError>) -> usize
     ensures { result ≡ rows_of r }
 {
     match r {
-        Reading::Whole(n) => n,
-        Reading::Malformed(n) => n,
-        Reading::Full(n) => n,
-        Reading::Refused => 0,
+        Ok(n) => n,
+        Err(e) => e.rows(),
     }
 }
 
 // What is wrong with the list's count of names, or with a name.
-fn check_verdict(c: Check) -> Verdict
-    ensures { result ≡ check_verdict c }
+fn check_verdict(list: NameList) -> Result<(), InputError>
+    ensures { result ≡ check_verdict (check_of list.entry.text.now list.entry.from.now list.entry.to.now) }
 {
-    match c {
-        Check::Fine => Verdict::Fine,
-        Check::Sizes => Verdict::Fault(1, 0, 0),
-        Check::Names => Verdict::Fault(2, 0, 0),
-    }
+    chroms::check_list(list)?;
+    Ok(())
 }
 
 // Whether the ends part n bytes: none of them falls, and the last is n.
+#[tactic(auto, using(crate::proofs::Parting::partings))]
 fn parts_all(n: usize, ends: &[usize]) -> bool
     ensures { result ≡ parts_all n 0 ends.now }
 {
     let mut at: usize = 0;
-    let mut k: usize = 0;
-    while k < ends.len() {
-        let e = ends[k];
-        k += 1;
-        if e < at {
+    for end in ends {
+        if *end < at {
             return false;
         }
-        at = e;
+        at = *end;
     }
     at == n
 }
@@ -123,35 +157,36 @@ fn read_names(list: &[u8], from: &mut [usize], to: &mut [usize], len: &mut [u64]
     ensures { NamesRead list.now result from.new to.new len.new × (length from.new ≡ rows_most) × (length to.new ≡ rows_most) × (length len.new ≡ rows_most) }
 {
     let r = chroms::read_list(list, from, to, len);
-    let n = rows_ahead(r);
-    let c = chroms::check_list(list, &from[..n], &to[..n]);
+    let count = rows_ahead(r);
+    let names = NameList {
+        text: list,
+        from: &from[..count],
+        to: &to[..count],
+    };
+    let checked = check_verdict(names);
     Names {
-        verdict: first(verdict_at(0, r), check_verdict(c)),
-        count: n,
+        verdict: verdict_at(0, r).and(checked),
+        count,
     }
 }
 
 // Reads a text's rows to the columns from place p on, where there are slots for all that a text may have.
 fn read_part(
     text: &[u8],
-    list: &[u8],
-    from: &[usize],
-    to: &[usize],
+    names: NameList,
     chrom: &mut [u64],
     start: &mut [u64],
     stop: &mut [u64],
     p: usize,
-) -> Reading
-    requires { Slots list.now from.now to.now p (cols chrom.old start.old stop.old) }
-    ensures { PartRead (names list.now from.now to.now) text.now p
+) -> Result<usize, ReadError>
+    requires { Slots names.text.now names.from.now names.to.now p (cols chrom.old start.old stop.old) }
+    ensures { PartRead (listed names.entry) text.now p
         (cols chrom.old start.old stop.old) result (cols chrom.new start.new stop.new) }
 {
     let e = p + 1024;
     rows::read_rows(
         text,
-        list,
-        from,
-        to,
+        names,
         &mut chrom[p..e],
         &mut start[p..e],
         &mut stop[p..e],
@@ -162,34 +197,27 @@ fn read_part(
 fn read_streams(
     bytes: &[u8],
     ends: &[usize],
-    list: &[u8],
-    from: &[usize],
-    to: &[usize],
+    names: NameList,
     chrom: &mut [u64],
     start: &mut [u64],
     stop: &mut [u64],
 ) -> Streams
-    requires { Readable bytes.now ends.now list.now from.now to.now (cols chrom.old start.old stop.old) }
-    ensures { StreamsRead (names list.now from.now to.now) (stream_texts bytes.now ends.now) result
+    requires { Readable bytes.now ends.now names.text.now names.from.now names.to.now (cols chrom.old start.old stop.old) }
+    ensures { StreamsRead (listed names.entry) (stream_texts bytes.now ends.now) result
         (cols chrom.new start.new stop.new) }
 {
     let n = ends.len() - 2;
-    let mut verdict = Verdict::Fine;
-    let mut tops = [0; 8];
-    let mut k: usize = 0;
-    while k < n {
+    let mut verdict = Ok(());
+    let mut to = [0; 8];
+    for k in 0..n {
         let a = ends[k + 1];
         let b = ends[k + 2];
         let p = k * 1024;
-        let r = read_part(&bytes[a..b], list, from, to, chrom, start, stop, p);
-        tops[k] = p + rows_ahead(r);
-        verdict = first(verdict, verdict_at((k + 2) as u64, r));
-        k += 1;
+        let r = read_part(&bytes[a..b], names, chrom, start, stop, p);
+        to[k] = p + rows_ahead(r);
+        verdict = verdict.and(verdict_at((k + 2) as u64, r));
     }
-    Streams {
-        verdict: verdict,
-        to: tops,
-    }
+    Streams { verdict, to }
 }
 
 // Reads all texts to their columns, and says what is wrong before the run. Given are the texts one behind the other and where each
@@ -206,44 +234,32 @@ pub fn read_texts(
     chrom: &mut [u64],
     start: &mut [u64],
     stop: &mut [u64],
-) -> Read
+) -> Result<Read, InputError>
     requires { Rooms from.old to.old len.old (cols bchrom.old bstart.old bstop.old) (cols chrom.old start.old stop.old) }
     ensures { Reads (texts_of bytes.now ends.now) result from.new to.new len.new
         (cols bchrom.new bstart.new bstop.new) (cols chrom.new start.new stop.new) }
 {
     if !is_sized(bytes.len(), ends) {
-        return Read {
-            verdict: Verdict::Fault(1, 0, 0),
-            names: 0,
-            bases: 0,
-            streams: 0,
-            to: [0; 8],
-        };
+        return Err(InputError::Sizes);
     }
     let a = ends[0];
     let b = ends[1];
     let list = &bytes[..a];
     let named = read_names(list, from, to, len);
     let n = named.count;
-    let r = read_part(
-        &bytes[a..b],
-        list,
-        &from[..n],
-        &to[..n],
-        bchrom,
-        bstart,
-        bstop,
-        0,
-    );
-    let s = read_streams(bytes, ends, list, &from[..n], &to[..n], chrom, start, stop);
-    let of_list = named.verdict;
-    let of_streams = s.verdict;
-    let tops = s.to;
-    Read {
-        verdict: first(of_list, first(verdict_at(1, r), of_streams)),
+    let names = NameList {
+        text: list,
+        from: &from[..n],
+        to: &to[..n],
+    };
+    let r = read_part(&bytes[a..b], names, bchrom, bstart, bstop, 0);
+    let s = read_streams(bytes, ends, names, chrom, start, stop);
+    named.verdict.and(verdict_at(1, r).and(s.verdict))?;
+    let to = s.to;
+    Ok(Read {
         names: n,
         bases: rows_ahead(r),
         streams: ends.len() - 2,
-        to: tops,
-    }
+        to,
+    })
 }

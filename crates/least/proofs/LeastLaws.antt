@@ -4,7 +4,7 @@ use mathlib.Core.Bool.{Bool, true, false, cond, not, ◌||◌}
 use mathlib.Core.List.{List, [], ◌∷◌}
 use Prim.Native.Nat.{ℕ, zero, suc, ◌+◌, ◌-◌, ◌<◌, ◌≤◌}
 use native.Mathlib.Omega.{arith}
-use lib.Dec.{ltb, leb, eqb}
+use lib.Dec.{ltb, leb}
 use lib.ListN.{get_or}
 use borrow.Author.Tests.{le-leb, lt-leb, leb-true, leb-false}
 use Rattle.basics.specs.Lex.{lex}
@@ -36,7 +36,7 @@ of_two q ended n h = rw (best_none q ended n 6 2 h)
 abbrev only : ℕ → Option Stream
 only k = Some (record { 0 = k })
 
-pub of_few : (q : List (List ℕ)) (ended : List ℕ) (n : ℕ) → 0 < n → n ≤ 2 → (t u s : Bool) → t ≡ is_ended (get_or ended 0 0) → u ≡ (leb n 1 || is_ended (get_or ended 1 0)) → s ≡ sooner (best_at (record { 0 = 1 }) (get_or q 1 [])) (get_or q 0 [])
+of_few : (q : List (List ℕ)) (ended : List ℕ) (n : ℕ) → 0 < n → n ≤ 2 → (t u s : Bool) → t ≡ is_ended (get_or ended 0 0) → u ≡ (leb n 1 || is_ended (get_or ended 1 0)) → s ≡ sooner (best_at (record { 0 = 1 }) (get_or q 1 [])) (get_or q 0 [])
     → cond u (cond t None (only 0)) (cond t (only 1) (cond s (only 1) (only 0))) ≡ stream_of (least_in q ended n)
 unfolding better_of
 of_few q ended n lo hi t u s e f g = rw (of_two q ended n hi, lt-leb n 0 lo, ← e) (past (leb n 1) (is_ended (get_or ended 1 0)) f)
@@ -57,6 +57,17 @@ of_few q ended n lo hi t u s e f g = rw (of_two q ended n hi, lt-leb n 0 lo, ←
     past true d z = rw z (go t true s g)
     past false true z = rw z (go t true s g)
     past false false z = rw z (go t false s g)
+
+pub of_one : (q : List (List ℕ)) (ended : List ℕ) (n : ℕ) → 0 < n → n < 2 → (t : Bool) → t ≡ is_ended (get_or ended 0 0) → cond t None (only 0) ≡ stream_of (least_in q ended n)
+of_one q ended n lo hi t e =
+    let u : true ≡ (leb n 1 || is_ended (get_or ended 1 0)) = rw (le-leb n 1 (omega arith)) refl in
+    of_few q ended n lo (omega arith) t true (sooner (best_at (record { 0 = 1 }) (get_or q 1 [])) (get_or q 0 [])) e u refl
+
+pub of_both : (q : List (List ℕ)) (ended : List ℕ) (n : ℕ) → 2 ≤ n → n ≤ 2 → (t u s : Bool) → t ≡ is_ended (get_or ended 0 0) → u ≡ is_ended (get_or ended 1 0) → s ≡ sooner (best_at (record { 0 = 1 }) (get_or q 1 [])) (get_or q 0 [])
+    → cond u (cond t None (only 0)) (cond t (only 1) (cond s (only 1) (only 0))) ≡ stream_of (least_in q ended n)
+of_both q ended n lo hi t u s e f g =
+    let v : u ≡ (leb n 1 || is_ended (get_or ended 1 0)) = rw (lt-leb n 1 (omega arith)) f in
+    of_few q ended n (omega arith) hi t u s e v g
 
 -- the best is the head of the stream that it names, one of eight
 module _ (q : List (List ℕ)) (ended : List ℕ) (n : ℕ) where

@@ -1,21 +1,17 @@
 -- The loop over the bases: what was answered so far, and that 1 is not due at the next one.
 use mathlib.Core.Path.{◌≡◌, refl, sym, ap, subst, ◌∙◌}
-use mathlib.Core.Bool.{Bool, true, false, cond, ◌&&◌}
+use mathlib.Core.Bool.{true}
 use mathlib.Core.List.{List, map}
-use Prim.Native.Nat.{ℕ, ◌+◌, ◌-◌, ◌≤◌, ◌<◌}
+use Prim.Native.Nat.{ℕ, zero, suc, ◌+◌, ◌-◌, ◌≤◌, ◌<◌}
 use native.Mathlib.Omega.{arith}
-use lib.Dec.{leb, ltb}
 use lib.ListN.{length, set, drop, length-append, length-map, length-drop, length-set}
-use borrow.Author.Tests.{leb-true, leb-false, ltb-true, ltb-false}
 use borrow.Rule.Slice.PartMut.{mid_of, put_mid, take_put}
-use Rattle.basics.proofs.BoolLaws.{and_left, and_also, clash}
 use Rattle.rules.specs.declared.Base.{Base}
 use Rattle.rules.specs.declared.End.{End}
 use Rattle.rules.specs.Offered.{Offer}
-use Rattle.std.specs.Prelude.{Option, Some, None}
+use Rattle.std.specs.Prelude.{Some, None}
 use Rattle.rules.specs.declared.Refusal.{Refusal}
 use Rattle.rules.specs.declared.Stage.TheVariants.{After}
-use Rattle.rules.specs.declared.Answer.{Answer}
 use Rattle.rules.specs.declared.Answer.TheVariants as answer
 use Rattle.rules.specs.Call.{Reply, found, refused, ended, answer_of, rows_of}
 use Rattle.heads.specs.View.{Cols, Heads}
@@ -39,7 +35,7 @@ use Rattle.demands.specs.Calls.{Blameless}
 use Rattle.demands.proofs.RunAnswers.{fits_so}
 use Rattle.demands.proofs.ComesBack.{right_blameless, comes_back, comes_sized}
 use Rattle.many.specs.declared.Passed.{Passed}
-use Rattle.many.specs.Many.{base_at, behind, Stays, Passes, none, one, Ends, all, short, other, Even, Answers}
+use Rattle.many.specs.Many.{base_at, behind, Stays, Passes, none, one, all, short, other, Even, Answers}
 use Rattle.many.specs.Inner.{Passable}
 use Rattle.many.proofs.Parts.{mid_drop, drop_mid, put_length}
 
@@ -64,14 +60,6 @@ pub answers_as : {s : Cols} {lengths : List ℕ} {t : Cols} {v : Run} {l : Lent}
 answers_as {s} {lengths} {t} {v} {l} {ns} {l' = l'} {ns' = ns'} e a = subst (λ (x : Passed). Answers s lengths t v l ns x l' ns') (sym e) a
 
 -- ---- the loop
-
--- fewer bases are left, and none where it does not go on
-pub at_most : (go : Bool) (n : ℕ) → cond go n 0 ≤ n
-at_most true n = omega arith
-at_most false n = omega arith
-
-pub fewer : {n k : ℕ} (go : Bool) → go ≡ true → k < n → (y : ℕ) → y ≤ n - (k + 1) → y < cond go (n - k) 0
-fewer go e i y d = rw e (omega (arith, i, d))
 
 -- what the loop is given: the streams' columns, the chromosomes' lengths, the bases, the run, what was lent and the counts
 pub record Job : Type 0 where
@@ -107,67 +95,49 @@ pub record Passing (j : Job) (h : Heads) (q : Ring) (x : Mark) (p : Offer) (u k 
   pub answers : length m.answers ≡ length j.l.answers
   pub counts : length ms ≡ length j.ns
 
--- the next base can be given, and nothing stopped those ahead of it
-pub record Next (j : Job) (a : Option Answer) (h : Heads) (q : Ring) (x : Mark) (p : Offer) (u k : ℕ) (m : Lent) (ms : List ℕ) : Type 0 where
+-- the next base can be given
+pub record Next (j : Job) (h : Heads) (q : Ring) (x : Mark) (p : Offer) (u k : ℕ) (m : Lent) (ms : List ℕ) : Type 0 where
   pub passing : Passing j h q x p u k m ms
   pub below : k < length j.t.chrom
   pub enough : j.v.settings.room ≤ length m.answers - u
-  pub nothing : a ≡ None
 
--- at a turn: where it goes on, the next base can be given; else this is what came of it
-pub record Turn (j : Job) (go : Bool) (a : Option Answer) (h : Heads) (q : Ring) (x : Mark) (p : Offer) (u k : ℕ) (m : Lent) (ms : List ℕ) : Type 0 where
-  pub on : go ≡ true → Next j a h q x p u k m ms
-  pub off : go ≡ false → Gets j (record { run = run_in h j.v.settings.chroms q x; bases = k; records = u; offer = p; last = a }) m ms
-  pub kept : Kept j.l.cells m.cells
-  pub answers : length m.answers ≡ length j.l.answers
-  pub counts : length ms ≡ length j.ns
+pub begins : (j : Job) → Passable j.s j.lengths j.t j.v j.l j.ns → Shaped (heads_of j.v) → (h : Heads) → h ≡ heads_of j.v → (q : Ring) → q ≡ ring_of j.v → Passing j h q j.v.mark None 0 0 j.l j.ns
+begins j z shaped h i q e = rw (i, e) (record {
+  passes = none;
+  blameless = right_blameless j.s j.lengths j.v j.l z.right;
+  shaped = shaped;
+  like = record { from = refl; to = refl; streams = refl };
+  going = z.going;
+  room = refl;
+  most = omega arith;
+  free = omega arith;
+  even = z.even;
+  kept = refl;
+  answers = refl;
+  counts = refl;
+})
 
-pub begins : (j : Job) → Passable j.s j.lengths j.t j.v j.l j.ns → Shaped (heads_of j.v) → (h : Heads) → h ≡ heads_of j.v → (q : Ring) → q ≡ ring_of j.v → Turn j true None h q j.v.mark None 0 0 j.l j.ns
-begins j z shaped h i q e = rw (i, e) (record { on = λ y. first; off = λ y. absurd (clash refl y); kept = refl; answers = refl; counts = refl })
-  where
-    first : Next j None (heads_of j.v) (ring_of j.v) j.v.mark None 0 0 j.l j.ns
-    first = record {
-      passing = record {
-        passes = none;
-        blameless = right_blameless j.s j.lengths j.v j.l z.right;
-        shaped = shaped;
-        like = record { from = refl; to = refl; streams = refl };
-        going = z.going;
-        room = refl;
-        most = omega arith;
-        free = omega arith;
-        even = z.even;
-        kept = refl;
-        answers = refl;
-        counts = refl;
-      };
-      below = z.some;
-      enough = omega (arith, (fits_so j.s j.lengths j.v j.l z.right).answer);
-      nothing = refl;
-    }
+-- there are answer rows for the first
+pub first_enough : (j : Job) → Passable j.s j.lengths j.t j.v j.l j.ns → j.v.settings.room ≤ length j.l.answers - 0
+first_enough j z = omega (arith, (fits_so j.s j.lengths j.v j.l z.right).answer)
 
--- after a base was answered: whether there is a further one and rows for it
-module _ {j : Job} {h : Heads} {q : Ring} {x : Mark} {p : Offer} {u k : ℕ} {m : Lent} {ms : List ℕ} (z : Passing j h q x p u k m ms) (some : 0 < k) (y : Bool)
-    (is : y ≡ ltb k (length j.t.chrom) && leb j.v.settings.room (length m.answers - u)) where
-  goes : y ≡ true → Next j None h q x p u k m ms
-  goes e =
-      let w : ltb k (length j.t.chrom) && leb j.v.settings.room (length m.answers - u) ≡ true = sym is ∙ e in
-      record { passing = z; below = ltb-true _ _ (and_left _ _ w); enough = leb-true _ _ (and_also (ltb k (length j.t.chrom)) _ w); nothing = refl }
+positive : (k a b : ℕ) → (k ≡ 0 → b ≤ a) → a < b → 0 < k
+positive zero a b f e = absurd (omega (arith, f refl, e))
+positive (suc k) a b f e = omega arith
 
-  -- there is none, or there are too few rows
-  stops : y ≡ false → Gets j (record { run = run_in h j.v.settings.chroms q x; bases = k; records = u; offer = p; last = None }) m ms
-  stops e = record { run = run_in h j.v.settings.chroms q x; lent = m; passes = z.passes; ends = go (ltb k (length j.t.chrom)) refl (sym is ∙ e) }
-    where
-      go : (c : Bool) → ltb k (length j.t.chrom) ≡ c → c && leb j.v.settings.room (length m.answers - u) ≡ false
-          → Ends j.s j.lengths j.t k u (run_in h j.v.settings.chroms q x) m None (run_in h j.v.settings.chroms q x) m
-      go true i f = short (ltb-true k (length j.t.chrom) i) some (omega (arith, leb-false j.v.settings.room (length m.answers - u) f, z.free, z.room))
-      go false i f = all (omega (arith, ltb-false k (length j.t.chrom) i, z.most))
+-- there is none, or there are too few rows for it
+module _ {j : Job} {h : Heads} {q : Ring} {x : Mark} {p : Offer} {u k : ℕ} {m : Lent} {ms : List ℕ} (z : Passing j h q x p u k m ms) where
+  abbrev stops : Passed
+  stops = record { run = run_in h j.v.settings.chroms q x; bases = k; records = u; offer = p; last = None }
 
-  turns : {a : Option Answer} → a ≡ None → Turn j y a h q x p u k m ms
-  turns e = rw e (record { on = goes; off = stops; kept = z.kept; answers = z.answers; counts = z.counts })
+  pub none_left : length j.t.chrom ≤ k → Gets j stops m ms
+  none_left e = record { run = run_in h j.v.settings.chroms q x; lent = m; passes = z.passes; ends = all (omega (arith, e, z.most)) }
+
+  pub too_few : (k ≡ 0 → j.v.settings.room ≤ length m.answers - u) → k < length j.t.chrom → length m.answers - u < j.v.settings.room → Gets j stops m ms
+  too_few f b e = record { run = run_in h j.v.settings.chroms q x; lent = m; passes = z.passes; ends = short b (positive k (length m.answers - u) j.v.settings.room f e) (omega (arith, e, z.free, z.room)) }
 
 -- the next one is given
-module _ {j : Job} {w : Option Answer} {h : Heads} {q : Ring} {x : Mark} {p : Offer} {u k : ℕ} {m : Lent} {ms : List ℕ} (n : Next j w h q x p u k m ms) where
+module _ {j : Job} {h : Heads} {q : Ring} {x : Mark} {p : Offer} {u k : ℕ} {m : Lent} {ms : List ℕ} (n : Next j h q x p u k m ms) where
   abbrev z : Passing j h q x p u k m ms
   z = n.passing
 
@@ -223,25 +193,19 @@ module _ {j : Job} {w : Option Answer} {h : Heads} {q : Ring} {x : Mark} {p : Of
           (subst (λ (y : Run). Gives j.s j.lengths r (base_at j.t k) (behind u m) (record { run = y; answer = answer.Ended e }) (behind u l')) (over_is e) (f.ended e i)) stays;
     }
 
+    -- it was refused
+    pub refused_out : (y : Refusal) → a.answer ≡ answer.Refused y → Gets j (record { run = run_in h' j.v.settings.chroms q x; bases = k; records = u; offer = p; last = Some (answer.Refused y) }) l' ms
+    refused_out y e = record {
+      run = r;
+      lent = m;
+      passes = z.passes;
+      ends = other (answer.Refused y) (run_in h' j.v.settings.chroms q x) l' n.below (λ o. omega (arith, n.enough, z.free, z.room)) tt (f.refused y e) stays;
+    }
+
     -- the queue and the answer rows are as long as they were
     module _ (kept : length c ≡ length m.cells) (whole : length rs ≡ length part.answers) where
       same : length l'.answers ≡ length m.answers
       same = put_length u m.answers rs z.free whole
-
-      -- it was refused
-      pub refused_out : (y : Refusal) → a.answer ≡ answer.Refused y → Turn j false (Some (answer.Refused y)) h' q x p u k l' ms
-      refused_out y e = record {
-        on = λ i. absurd (clash i refl);
-        off = λ i. record {
-          run = r;
-          lent = m;
-          passes = z.passes;
-          ends = other (answer.Refused y) (run_in h' j.v.settings.chroms q x) l' n.below (λ o. omega (arith, n.enough, z.free, z.room)) tt (f.refused y e) stays;
-        };
-        kept = kept ∙ z.kept;
-        answers = same ∙ z.answers;
-        counts = z.counts;
-      }
 
       -- it was answered
       module _ (i : ℕ) (o : Offer) (e : a.answer ≡ answer.Found i o) where
@@ -265,7 +229,7 @@ module _ {j : Job} {w : Option Answer} {h : Heads} {q : Ring} {x : Mark} {p : Of
             let z' = comes_sized j.s j.lengths r (base_at j.t k) (behind u m) g (behind u l') gives right z.shaped in
             record { from = z'.from ∙ z.like.from; to = z'.to ∙ z.like.to; streams = z'.streams ∙ z.like.streams }
 
-        goes_on : (y : Mark) → y ≡ mark_of (After b) → Passing j h' a.ring y o (u + i) (k + 1) l' (set ms k i)
+        pub goes_on : (y : Mark) → y ≡ mark_of (After b) → Passing j h' a.ring y o (u + i) (k + 1) l' (set ms k i)
         goes_on y d = subst (λ (y' : Mark). Passing j h' a.ring y' o (u + i) (k + 1) l' (set ms k i)) (ap (λ (y' : Base). mark_of (After y')) (sym bs) ∙ sym d) (record {
           passes = one i o g.run l' z.passes gives stays;
           blameless = back.0;
@@ -280,7 +244,3 @@ module _ {j : Job} {w : Option Answer} {h : Heads} {q : Ring} {x : Mark} {p : Of
           answers = same ∙ z.answers;
           counts = length-set ms k i ∙ z.counts;
         })
-
-        pub found_out : (y : Mark) → y ≡ mark_of (After b) → (go : Bool) → go ≡ ltb (k + 1) (length j.t.chrom) && leb j.v.settings.room (length l'.answers - (u + i))
-            → Turn j go w h' a.ring y o (u + i) (k + 1) l' (set ms k i)
-        found_out y d go is = turns (goes_on y d) (omega arith) go is n.nothing

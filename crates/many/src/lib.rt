@@ -1,7 +1,7 @@
 // Bases given to a run one after the other in one call: as by the call for one base, and faster.
 #![tactic(auto)]
 
-ghost use Rattle.std.specs.Prelude.{◌≡◌, ◌&&◌, ◌-◌, ◌<◌, ◌≤◌, eqb, leb, ltb, length};
+ghost use Rattle.std.specs.Prelude.{◌≡◌, ◌&&◌, ◌<◌, eqb, leb, length};
 ghost use Rattle.heads.specs.View.{cols_of};
 ghost use Rattle.admit.specs.Right.{right};
 ghost use Rattle.pulls.specs.Pulls.{lent};
@@ -59,16 +59,8 @@ fn none_passed(run: Run, last: Option<Answer>) -> Passed
     }
 }
 
-// Whether there is a further base, and as many answer rows for it as records can wait.
-fn is_more(k: usize, bases: usize, free: usize, rows: usize, room: usize) -> bool
-    requires { free ≤ rows }
-    ensures { result ≡ ltb k bases && leb room (rows - free) }
-{
-    k < bases && room <= rows - free
-}
-
 // The bases, one after the other, of a run that goes on and is not the cause of 1. There is at least one. The end of the run is told at once; every other
-// way out of the loop leads to its end, where the run is put together: a copy of a run costs more than a base.
+// way out of the loop leads to its end, where the run is put together.
 fn pass(
     run: Run,
     bases: Columns,
@@ -89,9 +81,11 @@ fn pass(
     let mut offer = None;
     let mut last = None;
     let mut free: usize = 0;
-    let mut k: usize = 0;
-    let mut going = true;
-    while going {
+    let mut passed: usize = 0;
+    for k in 0..bases.chrom.len() {
+        if answers.len() - free < fixed.room {
+            break;
+        }
         let b = base_at(bases, k);
         let at = State { fixed, ring, mark };
         let a = step::step(&mut heads, at, b, s, lengths, queue, &mut answers[free..]);
@@ -99,15 +93,14 @@ fn pass(
             Answer::Found(n, o) => {
                 counts[k] = n;
                 free += n;
-                k += 1;
+                passed += 1;
                 ring = a.ring;
                 mark = Mark::from(Stage::After(b));
                 offer = o;
-                going = is_more(k, bases.chrom.len(), free, answers.len(), fixed.room);
             }
             Answer::Refused(x) => {
                 last = Some(Answer::Refused(x));
-                going = false;
+                break;
             }
             Answer::Ended(e) => {
                 return Passed {
@@ -122,7 +115,7 @@ fn pass(
     }
     Passed {
         run: Run::of(&heads, fixed.chroms, ring, mark),
-        bases: k,
+        bases: passed,
         records: free,
         offer,
         last,

@@ -1,8 +1,9 @@
 // One job of the list: its streams and bases are read, a run begins, and each base's records are compared.
 use crate::order;
+use fields::NameList;
 use heads::Columns;
 use rules::{Answer, Base, Chrom, Settings};
-use runs::{Begins, Run};
+use runs::Run;
 use tests_shared::{Reader, at, front, name_ends, name_starts, name_text};
 
 // What a job comes to: how many bases and records it has, and whether all are those of the list.
@@ -151,21 +152,13 @@ fn replay_run(
         chroms,
         room: 1024,
     };
-    let started = Run::start(
-        fixed,
-        ranges.from,
-        ranges.to,
-        &text,
-        front(&from, chroms),
-        front(&to, chroms),
-        rows.chrom,
-        rows.start,
-        rows.stop,
-    );
-    match started.begins {
-        Begins::Begun => replay_bases(started.run, bases, rows, front(&lengths, chroms), reader),
-        Begins::Refused(_) => None,
-    }
+    let names = NameList {
+        text: &text,
+        from: front(&from, chroms),
+        to: front(&to, chroms),
+    };
+    let run = Run::start(fixed, ranges.from, ranges.to, names, rows).ok()?;
+    replay_bases(run, bases, rows, front(&lengths, chroms), reader)
 }
 
 // What the job that stands at a place comes to; nothing where it can't be read, or a base differs. The number of chromosomes, or of streams, is 0

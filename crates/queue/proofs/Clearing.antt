@@ -6,7 +6,6 @@ use Prim.Native.Nat.{ℕ, suc, ◌+◌, ◌-◌, ◌≤◌, ◌<◌}
 use native.Mathlib.Omega.{arith}
 use native.Mathlib.Nat.{zero-add}
 use lib.ListN.{get_or, set}
-use borrow.Author.Count.{below_more}
 use Rattle.basics.specs.Build.{build}
 use Rattle.basics.specs.Lists.{filter, back, All}
 use Rattle.basics.proofs.ListLaws.{filter_all, front_all, front_whole}
@@ -44,7 +43,7 @@ module _ (q₀ q : Ring) (c : Cells) (from : ℕ) (v : Skipping q₀ q c from) w
   }
 
   -- the test at the head is one of the first that waits
-  module _ (m next : ℕ) (x : Slot) (more : q.len ≡ suc m) (on : next ≡ place q.head q.room 1) (here : x ≡ slot_at c (place q.head q.room 0)) where
+  module _ (x : Slot) (more : 0 < q.len) (here : x ≡ slot_at c (place q.head q.room 0)) where
     first : ends from (nth q c 0) ≡ lasts from x.stop
     first = rw here
 
@@ -53,54 +52,43 @@ module _ (q₀ q : Ring) (c : Cells) (from : ℕ) (v : Skipping q₀ q c from) w
       sound = v.sound;
       room = v.room;
       chrom = v.chrom;
-      left = sym (sym v.same ∙ rw (waiting_cons q c m next v.sound more on, first, h));
+      left = sym (sym v.same ∙ rw (waiting_cons q c (q.len - 1) _ v.sound (omega arith) refl, first, h));
     }
 
-    pub skipping_next : lasts from x.stop ≡ false → next < q.room → Skipping q₀ (moved q next m) c from
-    skipping_next h l = record {
+    pub skipping_next : (next : ℕ) → next ≡ place q.head q.room 1 → lasts from x.stop ≡ false → next < q.room → Skipping q₀ (moved q next (q.len - 1)) c from
+    skipping_next next on h l = record {
       sound = record { inside = l; fits = omega arith; small = v.sound.small };
       room = v.room;
       chrom = v.chrom;
-      same = sym (sym v.same ∙ rw (waiting_cons q c m next v.sound more on, first, h));
+      same = sym (sym v.same ∙ rw (waiting_cons q c (q.len - 1) next v.sound (omega arith) on, first, h));
     }
 
 -- ---- how many stay where they are
 
--- the first k are live, as their stops say
-pub record Leading (q : Ring) (c : Cells) (from k : ℕ) : Type 0 where
-  pub within : k ≤ q.len
-  pub each : (j : ℕ) → j < k → lasts from (slot_at c (place q.head q.room j)).stop ≡ true
-
-module _ (q : Ring) (c : Cells) (from k : ℕ) (v : Leading q c from k) where
+module _ (q : Ring) (c : Cells) (from k : ℕ) (v : (j : ℕ) → j < k → ends from (nth q c j) ≡ true) where
   leads : All (λ r. ends from r ≡ true) (oldest k q c)
-  leads = all_build (nth q c) k 0 (λ j i l. v.each j (omega arith))
+  leads = all_build (nth q c) k 0 (λ j i l. v j (omega arith))
 
-  pub leading_end : q.len ≤ k → Leads q c from q.len
-  unfolding waiting
-  leading_end h =
-      let e : k ≡ q.len = omega (arith, v.within) in
-      record { few = omega arith; ahead = sym (front_whole (rw e at leads)) }
+  -- the one behind them is not live
+  pub leads_stop : k < q.len → ends from (nth q c k) ≡ false → Leads q c from k
+  unfolding waiting build
+  leads_stop more h =
+      let m : ℕ = q.len - suc k in
+      let n : q.len ≡ k + suc m = omega arith in
+      record {
+        few = omega arith;
+        ahead = sym (rw (n, build_append (nth q c) k (suc m) 0, zero-add k) (front_stops (nth q c k) (build (nth q c) m (suc k)) leads h));
+      }
 
-  -- one slot more
-  module _ (x : Slot) (more : k < q.len) (here : x ≡ slot_at c (place q.head q.room k)) where
-    pub leading_next : lasts from x.stop ≡ true → Leading q c from (k + 1)
-    leading_next h = record { within = omega arith; each = below_more _ _ v.each (rw here at h) }
-
-    pub leading_stop : lasts from x.stop ≡ false → Leads q c from k
-    unfolding waiting build
-    leading_stop h =
-        let m : ℕ = q.len - suc k in
-        let n : q.len ≡ k + suc m = omega arith in
-        record {
-          few = v.within;
-          ahead = sym (rw (n, build_append (nth q c) k (suc m) 0, zero-add k) (front_stops (nth q c k) (build (nth q c) m (suc k)) leads (rw here at h)));
-        }
+-- all are live
+pub leads_all : (q : Ring) (c : Cells) (from : ℕ) → ((j : ℕ) → j < q.len → ends from (nth q c j) ≡ true) → Leads q c from q.len
+unfolding waiting
+leads_all q c from v = record { few = omega arith; ahead = sym (front_whole (leads q c from q.len v)) }
 
 -- ---- the rest, moved up
 
 -- the first k were gone through, and kept of them stay; behind them all is as it was
 pub record Packing (q : Ring) (from : ℕ) (c₀ c : Cells) (kept k : ℕ) : Type 0 where
-  pub within : k ≤ q.len
   pub few : kept ≤ k
   pub fair : Fair q c
   pub ahead : oldest kept q c ≡ filter (ends from) (oldest k q c₀)
@@ -108,7 +96,6 @@ pub record Packing (q : Ring) (from : ℕ) (c₀ c : Cells) (kept k : ℕ) : Typ
 
 pub packing_start : (q : Ring) (from : ℕ) (c : Cells) (n : ℕ) → Packable q c from n → Packing q from c c n n
 packing_start q from c n p = record {
-  within = p.few;
   few = omega arith;
   fair = p.fair;
   ahead = sym (filter_all p.ahead);
@@ -123,7 +110,6 @@ module _ (q : Ring) (from : ℕ) (c₀ c : Cells) (kept k : ℕ) (v : Packing q 
 
     pub packing_drop : lasts from (slot_at c at).stop ≡ false → Packing q from c₀ c kept (k + 1)
     packing_drop h = record {
-      within = omega arith;
       few = omega arith;
       fair = v.fair;
       ahead = v.ahead ∙ sym (rw (oldest_more q c₀ k) (filter_drops (ends from) (oldest k q c₀) (nth q c₀ k) (seen ∙ h)));
@@ -132,7 +118,6 @@ module _ (q : Ring) (from : ℕ) (c₀ c : Cells) (kept k : ℕ) (v : Packing q 
 
     pub packing_keep : (to : ℕ) → to ≡ place q.head q.room kept → lasts from (slot_at c at).stop ≡ true → Packing q from c₀ (set c to (get_or c at [])) (kept + 1) (k + 1)
     packing_keep to there h = record {
-      within = omega arith;
       few = omega arith;
       fair = fair_put q c to (get_or c at []) v.fair;
       ahead =
@@ -142,11 +127,9 @@ module _ (q : Ring) (from : ℕ) (c₀ c : Cells) (kept k : ℕ) (v : Packing q 
       behind = λ j a b. nth_other q c v.fair kept to (omega arith) there (get_or c at []) j (omega arith) (λ e. omega arith) ∙ v.behind j (omega arith) b;
     }
 
-  pub packing_end : q.len ≤ k → Packs q c₀ from (moved q q.head kept) c
+  pub packing_end : k ≡ q.len → Packs q c₀ from (moved q q.head kept) c
   unfolding waiting
-  packing_end h =
-      let n : k ≡ q.len = omega arith in
-      record { fair = fair_len q c kept v.fair (omega arith); room = refl; chrom = refl; left = v.ahead ∙ rw n }
+  packing_end e = record { fair = fair_len q c kept v.fair (omega arith); room = refl; chrom = refl; left = v.ahead ∙ rw e }
 
 -- ---- the three together
 

@@ -4,7 +4,7 @@ use mathlib.Core.Bool.{Bool, true, false}
 use mathlib.Core.List.{List, [], ◌∷◌, ◌++◌, append_assoc, map, map-append}
 use Prim.Native.Nat.{ℕ, suc, ◌+◌, ◌≤◌, ◌<◌}
 use native.Mathlib.Omega.{arith}
-use lib.ListN.{length, get_or, set, drop, length-append, length-map, length-set}
+use lib.ListN.{length, get_or, set, drop, length-append, length-map}
 use lib.Seq.{set_at, drop-cons}
 use lib.Dec.{eqb, ltb}
 use Rattle.basics.specs.Build.{build}
@@ -41,31 +41,24 @@ written_more part d hits x old out n e h o =
 
 -- the first k were gone through, and n of them were written
 pub record Scanning (q : Ring) (c : Cells) (until : ℕ) (l₀ l : List (List ℕ)) (n k : ℕ) : Type 0 where
-  pub within : k ≤ q.len
   pub few : n ≤ k
-  pub answers : length l ≡ length l₀
   pub scans : Scans (filter (reached until) (oldest k q c)) l₀ n l
 
 pub scanning_start : (q : Ring) (c : Cells) (until : ℕ) (l : List (List ℕ)) → Scanning q c until l l 0 0
 unfolding build
-scanning_start q c until l = record { within = omega arith; few = omega arith; answers = refl; scans = record { count = refl; answers = refl } }
+scanning_start q c until l = record { few = omega arith; scans = record { count = refl; answers = refl } }
 
 -- one slot more
-module _ (q : Ring) (c : Cells) (until : ℕ) (l₀ l : List (List ℕ)) (n k : ℕ) (v : Scanning q c until l₀ l n k) (more : k < q.len)
-    (x : Slot) (here : x ≡ slot_at c (place q.head q.room k)) where
+module _ (q : Ring) (c : Cells) (until : ℕ) (l₀ l : List (List ℕ)) (n k : ℕ) (v : Scanning q c until l₀ l n k) (x : Slot) (here : x ≡ slot_at c (place q.head q.room k)) where
   pub scanning_pass : reaches until x.start ≡ false → Scanning q c until l₀ l n (k + 1)
   scanning_pass h = record {
-    within = omega arith;
     few = omega arith;
-    answers = v.answers;
     scans = rw (oldest_more q c k, filter_drops (reached until) (oldest k q c) (nth q c k) (rw here at h)) v.scans;
   }
 
   pub scanning_put : reaches until x.start ≡ true → n < length l₀ → Scanning q c until l₀ (set l n (x.stream.0 ∷ x.row ∷ [])) (n + 1) (k + 1)
   scanning_put h few = record {
-    within = omega arith;
     few = omega arith;
-    answers = simp length-set v.answers;
     scans =
         let hits = filter (reached until) (oldest k q c) in
         rw (oldest_more q c k, filter_keeps (reached until) (oldest k q c) (nth q c k) (rw here at h), here) (record {
@@ -74,9 +67,8 @@ module _ (q : Ring) (c : Cells) (until : ℕ) (l₀ l : List (List ℕ)) (n k : 
         });
   }
 
-pub scanning_end : (q : Ring) (c : Cells) (b : Base) (l₀ l : List (List ℕ)) (n k : ℕ) → Scanning q c b.stop l₀ l n k → q.len ≤ k →
+pub scanning_end : (q : Ring) (c : Cells) (b : Base) (l₀ l : List (List ℕ)) (n k : ℕ) → Scanning q c b.stop l₀ l n k → k ≡ q.len →
     All (λ r. live b r ≡ true) (waiting q c) → Scans (filter (overlaps b) (waiting q c)) l₀ n l
 unfolding waiting
-scanning_end q c b l₀ l n k v h all =
-    let e : q.len ≡ k = omega (arith, v.within) in
-    rw (filter_cong {p = overlaps b} {q = reached b.stop} (all_map (overlaps_live b) all), e) v.scans
+scanning_end q c b l₀ l n k v e all =
+    rw (filter_cong {p = overlaps b} {q = reached b.stop} (all_map (overlaps_live b) all), ← e) v.scans

@@ -9,7 +9,8 @@ ghost use Rattle.queue.specs.Deeds.{Clears, Pushes, Scannable, Scans, Fronts, Sk
 
 use rules::{Base, Chrom, Stream};
 
-// How many wait, where the oldest stands, how many slots were lent, and the chromosome that all are on.
+// How many wait, where the oldest stands, how many slots were lent, and the chromosome that all are on. What a ring keeps to (`Fair`) stands in the
+// clauses and not in the type: a run may have any content, and 1's test asks of its ring whether it is fair.
 #[derive(Clone, Copy)]
 pub struct Ring {
     pub head: usize,
@@ -27,6 +28,7 @@ pub struct Slot {
     pub stop: u64,
 }
 
+// A slot of the lent memory is four numbers: so hosts lend it, in C's layout.
 impl From<[u64; 4]> for Slot {
     ghost from_gives = { λ x y. y ≡ slot_in x };
 
@@ -80,6 +82,7 @@ impl Ring {
     }
 
     // Where the first that waits starts, if any does.
+    #[tactic(auto, using(crate::proofs::Waiting::front_none, crate::proofs::Waiting::front_first))]
     pub fn front(self, queue: &[[u64; 4]]) -> Option<u64>
         requires { Fair self queue.now }
         ensures { Fronts self queue.now result }
@@ -91,7 +94,7 @@ impl Ring {
     }
 
     // The ring with one more at the end, where there is room.
-    #[tactic(auto, using(crate::proofs::Pushing::push_full))]
+    #[tactic(auto, using(crate::proofs::Pushing::push_full, crate::proofs::Pushing::push_done))]
     pub fn push(self, queue: &mut [[u64; 4]], slot: Slot) -> Option<Ring>
         requires { Fair self queue.old }
         ensures { Pushes self queue.old slot result
@@ -108,7 +111,8 @@ impl Ring {
         })
     }
 
-    // Past the records at the front that do not end after from: the head moves, and no slot does.
+    // Past the records at the front that do not end after from: the head moves, and no slot does. It counts no index: each turn is of a smaller ring.
+    #[tactic(auto, using(crate::proofs::Clearing::skipping_stop, crate::proofs::Clearing::skipping_next, crate::proofs::Clearing::skipping_end))]
     fn skip(self, queue: &[[u64; 4]], from: u64) -> Ring
         requires { Fair self queue.now }
         ensures { Skips self queue.now from result }
@@ -122,6 +126,7 @@ impl Ring {
     }
 
     // How many records at the front end after from, up to the first that does not.
+    #[tactic(auto, using(crate::proofs::Clearing::leads_all, crate::proofs::Clearing::leads_stop))]
     fn live_ahead(self, queue: &[[u64; 4]], from: u64) -> usize
         requires { Fair self queue.now }
         ensures { Leads self queue.now from result }
@@ -135,6 +140,7 @@ impl Ring {
     }
 
     // The records that end after from, moved up in their order; the first n are known to be among them and stay.
+    #[tactic(auto, using(crate::proofs::Clearing::packing_start, crate::proofs::Clearing::packing_end))]
     fn pack(self, queue: &mut [[u64; 4]], from: u64, n: usize) -> Ring
         requires { Packable self queue.old from n }
         ensures { Packs self queue.old from result
@@ -154,6 +160,7 @@ impl Ring {
 
     // The records that are live for the base b, in their order. On another chromosome than the ring's there is none. Else the head
     // moves past what is dead, nothing is moved up to the first dead one behind it, and the rest is gone through once.
+    #[tactic(auto, using(crate::proofs::Clearing::clears_other, crate::proofs::Clearing::packable_led, crate::proofs::Clearing::clears_own))]
     pub fn clear(self, queue: &mut [[u64; 4]], b: Base) -> Ring
         requires { Fair self queue.old }
         ensures { Clears self queue.old b result

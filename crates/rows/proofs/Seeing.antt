@@ -10,8 +10,8 @@ use lib.Seq.{take-suc, take-take, get_or-drop, drop-drop, length-take-le}
 use Rattle.fields.specs.Names.{part, number_in}
 use Rattle.fields.specs.Scan.{front, in_field, field_at, FieldTo}
 use Rattle.fields.proofs.Scan.{front_append, front_prefix, front_take, front_front}
-use Rattle.rows.specs.Read.{Knows, Names}
-use Rattle.rows.specs.declared.Seen.{Seen}
+use Rattle.rows.specs.Read.{Knows, NameAt}
+use Rattle.rows.specs.declared.Name.{Name}
 
 -- one byte more agrees
 pub agree_next : (text : List ℕ) (a b i : ℕ) → take i (drop a text) ≡ take i (drop b text) → get_or text (a + i) 0 ≡ get_or text (b + i) 0 → a + i < length text → b + i < length text →
@@ -26,11 +26,11 @@ part_field {text} {at} {a} f =
     rw e (front_take in_field (drop at text))
 
 -- a name looked up by its bytes
-pub names_found : {text : List ℕ} {at a : ℕ} (ns : List (List ℕ)) → FieldTo text at a → (k : ℕ) → k ≡ 0 + number_in ns (part at a text) → Names text ns at (record { to = a; chrom = k })
-names_found ns f k e = record { field = f; number = e ∙ rw (zero-add, part_field f) }
+pub names_found : {text : List ℕ} {at a : ℕ} (ns : List (List ℕ)) → FieldTo text at a → (k : ℕ) → k ≡ 0 + number_in ns (part at a text) → NameAt text (number_in ns) at (record { from = at; to = a; chrom = k })
+names_found ns f k e = record { from = refl; field = f; number_of = e ∙ rw (zero-add, part_field f) }
 
 -- before any row: the empty name
-pub knows_none : (text : List ℕ) (ns : List (List ℕ)) (s : Seen) → s.from ≡ 0 → s.to ≡ 0 → s.chrom ≡ number_in ns [] → Knows text ns s
+pub knows_none : (text : List ℕ) (ns : List (List ℕ)) (s : Name) → s.from ≡ 0 → s.to ≡ 0 → s.chrom ≡ number_in ns [] → Knows text ns s
 unfolding front
 knows_none text ns s p q r = record {
   low = omega arith;
@@ -40,16 +40,18 @@ knows_none text ns s p q r = record {
 }
 
 -- the name of a row that was read
-pub knows_next : {text : List ℕ} {at a : ℕ} (ns : List (List ℕ)) (chrom : ℕ) → FieldTo text at a → chrom ≡ number_in ns (field_at text at) → Knows text ns (record { from = at; to = a; chrom = chrom })
-knows_next {text} {at} {a} ns chrom f e = record {
-  low = omega (arith, f.ends);
-  high = f.inside;
-  plain = rw (part_field f) (front_front in_field (drop at text));
-  number = e ∙ rw (part_field f);
-}
+pub knows_next : {text : List ℕ} {at : ℕ} {ns : List (List ℕ)} {r : Name} → NameAt text (number_in ns) at r → Knows text ns r
+knows_next {text} {at} {ns} {r} d =
+    let is : part r.from r.to text ≡ field_at text at = rw d.from (part_field d.field) in
+    record {
+      low = omega (arith, d.from, d.field.ends);
+      high = d.field.inside;
+      plain = rw is (front_front in_field (drop at text));
+      number = d.number_of ∙ rw is;
+    }
 
 -- k bytes at `at` are those of the name seen
-module _ {text : List ℕ} {ns : List (List ℕ)} {s : Seen} (w : Knows text ns s) (at k : ℕ) (le : k ≤ s.to - s.from) (fits : at + k ≤ length text)
+module _ {text : List ℕ} {ns : List (List ℕ)} {s : Name} (w : Knows text ns s) (at k : ℕ) (le : k ≤ s.to - s.from) (fits : at + k ≤ length text)
     (e : take k (drop s.from text) ≡ take k (drop at text)) where
   start : take k (drop at text) ≡ take k (part s.from s.to text)
   start = sym e ∙ sym (take-take k (s.to - s.from) (drop s.from text) le)
@@ -73,13 +75,16 @@ module _ {text : List ℕ} {ns : List (List ℕ)} {s : Seen} (w : Knows text ns 
     }
 
     -- all of them, and nothing else
-    pub seen_same : s.to - s.from ≤ k → a ≤ at + k → Names text ns at (record { to = a; chrom = s.chrom })
+    pub seen_same : s.to - s.from ≤ k → a ≤ at + k → NameAt text (number_in ns) at (record { from = at; to = a; chrom = s.chrom })
     seen_same h g =
         let all : k ≡ s.to - s.from = omega arith in
         let over : field_at text (at + k) ≡ [] = empty (field_at text (at + k)) (omega (arith, f.ends)) in
         let same : part s.from s.to text ≡ field_at text at = sym (field_is ∙ rw (over, append-nil) (start ∙ rw (all, take-take (s.to - s.from) (s.to - s.from) (drop s.from text) (omega arith)))) in
-        record { field = seen_to; number = w.number ∙ rw same }
+        record { from = refl; field = seen_to; number_of = w.number ∙ rw same }
       where
         empty : (l : List ℕ) → length l ≡ 0 → l ≡ []
         empty [] q = refl
         empty (b ∷ l) q = absurd (omega (arith, q))
+
+-- what a name met tells of the one at hand
+pub ruleset sights = (names_found, seen_to, seen_same)

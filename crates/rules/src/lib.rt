@@ -2,7 +2,7 @@
 #![tactic(auto)]
 
 ghost use Rattle.std.specs.Prelude.{◌≡◌};
-ghost use Rattle.rules.specs.Numbers.{refusal_number, end_number};
+ghost use Rattle.rules.specs.Numbers.{unbegun_number, refusal_number, end_number};
 ghost use Rattle.rules.specs.Start.{sized};
 
 // A stream's number, and a chromosome's number in list order: neither can stand where the other is due.
@@ -75,6 +75,18 @@ pub enum Unbegun {
     Sizes,
     // 2: a chromosome name is empty, too long or there twice.
     Names,
+}
+
+impl Unbegun {
+    // Its number.
+    pub fn number(self) -> u64
+        ensures { result ≡ unbegun_number self }
+    {
+        match self {
+            Unbegun::Sizes => 1,
+            Unbegun::Names => 2,
+        }
+    }
 }
 
 // Why a base is refused with the run unchanged.

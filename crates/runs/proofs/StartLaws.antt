@@ -14,7 +14,6 @@ use Rattle.basics.proofs.SaysLaws.{says_eq, says_and}
 use Rattle.rules.specs.declared.Row.{Row}
 use Rattle.rules.specs.declared.Base.{Base}
 use Rattle.rules.specs.declared.Settings.{Settings}
-use Rattle.rules.specs.declared.Unbegun.{Unbegun}
 use Rattle.rules.specs.declared.Unbegun.TheVariants as unbegun
 use Rattle.rules.specs.declared.Refusal.TheVariants.{Sizes}
 use Rattle.rules.specs.Rows.{Record, number, numbered}
@@ -28,13 +27,14 @@ use Rattle.queue.proofs.Calls as queue
 use Rattle.admit.specs.Right.{measured}
 use Rattle.admit.specs.Fits.{Fits}
 use Rattle.admit.proofs.RightLaws.{right_off, fits_right}
-use Rattle.runs.specs.declared.start.Begins.TheVariants.{Begun, Refused}
+use Rattle.std.specs.Prelude.{Ok}
+use Rattle.runs.specs.declared.Run.{Run}
 use Rattle.runs.specs.View.{heads_of, run_of, eight}
 use Rattle.pulls.specs.Pulls.{Lent}
 use Rattle.runs.specs.Comes.{lens_of, right_of, given_of}
-use Rattle.runs.specs.Start.{Plan, names_of, row_in, streams_of, counted, evened, in_rows, in_text, lendable, begun_by, fresh_run, start_of, Lends}
+use Rattle.runs.specs.Start.{Plan, names_of, row_in, streams_of, counted, evened, in_rows, in_text, lendable, fresh_run, none_run, start_of, Lends}
 use Rattle.runs.proofs.ViewLaws.{eight_at}
-use Rattle.runs.proofs.Starting.{ranged_says, sized_of, sized_true, fits, judged}
+use Rattle.runs.proofs.Starting.{ranged_says, sized_of, sized_true, fits, judged, begun_is}
 
 -- ---- a run that begins stands for the rules' fresh run
 
@@ -62,22 +62,22 @@ fresh_left s fixed from to =
     build_same (λ k. number k 0 (build (row_in s) (get_or to k 0 - get_or from k 0) (get_or from k 0))) (behind_at s (heads_of (fresh_run fixed from to))) fixed.streams 0 (λ k a b. number_range s k (get_or from k 0) (get_or to k 0)) ∙
     sym (numbered_build (λ k. build (row_in s) (get_or to k 0 - get_or from k 0) (get_or from k 0)) fixed.streams 0)
 
-module _ (p : Plan) (begun : (start_of p).begins ≡ Begun) where
+module _ (p : Plan) {r : Run} (begun : start_of p ≡ Ok r) where
   -- "A fresh run": what is left of each stream is all its rows, numbered from 0, and nothing waits
-  pub begun_fresh : (c : Cells) → run_of p.cols c (start_of p).run ≡ fresh (streams_of p.cols p.settings.streams p.from p.to)
-  begun_fresh c = rw (begun, fresh_left p.cols p.settings p.from p.to, fresh_none p.settings.room (record { 0 = 0 }) c)
+  pub begun_fresh : (c : Cells) → run_of p.cols c r ≡ fresh (streams_of p.cols p.settings.streams p.from p.to)
+  begun_fresh c = rw ((begun_is p begun).1, fresh_left p.cols p.settings p.from p.to, fresh_none p.settings.room (record { 0 = 0 }) c)
 
 -- ---- "A run that comes back so is never itself the cause of 1: its start [..]"
 
 -- a start that begins a run has tested all that 1 asks of it
-begun_tested : (p : Plan) → (start_of p).begins ≡ Begun → sized_of p && lendable p ≡ true
-begun_tested p begun = go (sized_of p && lendable p) (sym (ap begun_by (judged p)) ∙ begun)
+begun_tested : (p : Plan) {r : Run} → start_of p ≡ Ok r → sized_of p && lendable p ≡ true
+begun_tested p begun = go (sized_of p && lendable p) (sym (judged p) ∙ (begun_is p begun).0)
   where
-    go : (t : Bool) → begun_by (cond t (cond (all_named (names_of p)) none (some unbegun.Names)) (some unbegun.Sizes)) ≡ Begun → t ≡ true
+    go : (t : Bool) → cond t (cond (all_named (names_of p)) none (some unbegun.Names)) (some unbegun.Sizes) ≡ none → t ≡ true
     go true e = refl
     go false e = cc
 
-module _ (p : Plan) (begun : (start_of p).begins ≡ Begun) (lengths : List ℕ) (l : Lent) (d : Lends p lengths l) where
+module _ (p : Plan) {r : Run} (begun : start_of p ≡ Ok r) (lengths : List ℕ) (l : Lent) (d : Lends p lengths l) where
   begun_fits : Fits (lens_of p.cols lengths l) p.settings.streams p.settings.chroms (queue.fresh p.settings.room (record { 0 = 0 })) (eight 1) (eight 0) p.from p.from p.to l.cells
   unfolding lendable
   begun_fits =
@@ -101,22 +101,22 @@ module _ (p : Plan) (begun : (start_of p).begins ≡ Begun) (lengths : List ℕ)
       }
 
   -- 1 is not due, whatever the queue's memory holds
-  pub begun_right : right_of p.cols lengths (start_of p).run l ≡ true
+  pub begun_right : right_of p.cols lengths r l ≡ true
   begun_right =
-      rw begun
+      rw ((begun_is p begun).1)
       (fits_right (lens_of p.cols lengths l) p.settings.streams p.settings.chroms (queue.fresh p.settings.room (record { 0 = 0 })) (eight 1) (eight 0) p.from p.from p.to l.cells
       refl
       begun_fits)
 
 -- ---- "no run begins"
 
-module _ (p : Plan) (x : Unbegun) (refused : (start_of p).begins ≡ Refused x) (s : Cols) (lengths : List ℕ) (l : Lent) where
-  -- "1 to 8 streams": the run that is given back has none, so 1 is due whatever is lent
-  pub unbegun_wrong : right_of s lengths (start_of p).run l ≡ false
+module _ (s : Cols) (lengths : List ℕ) (l : Lent) where
+  -- "1 to 8 streams": the run that is kept then has none, so 1 is due whatever is lent
+  pub unbegun_wrong : right_of s lengths none_run l ≡ false
   unfolding measured
-  unbegun_wrong = rw refused (right_off (lens_of s lengths l) 0 0 (queue.fresh 0 (record { 0 = 0 })) (eight 1) (eight 0) (eight 0) (eight 0) (eight 0) l.cells refl)
+  unbegun_wrong = right_off (lens_of s lengths l) 0 0 (queue.fresh 0 (record { 0 = 0 })) (eight 1) (eight 0) (eight 0) (eight 0) (eight 0) l.cells refl
 
   -- every base that is given to it is refused by 1
-  pub unbegun_refused : (b : Base) → given_of s lengths (start_of p).run b l ≡ refuse (run_of s l.cells (start_of p).run) Sizes
+  pub unbegun_refused : (b : Base) → given_of s lengths none_run b l ≡ refuse (run_of s l.cells none_run) Sizes
   unfolding give
-  unbegun_refused b = rw (refused, rw refused at unbegun_wrong)
+  unbegun_refused b = rw unbegun_wrong

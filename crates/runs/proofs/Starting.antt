@@ -1,7 +1,7 @@
 -- What the tests of a start come to, one by one, and that the two tests of names agree.
 use mathlib.Core.Path.{◌≡◌, refl, sym, ap, ◌∙◌}
 use mathlib.Core.Bool.{Bool, true, false, cond, not, ◌&&◌, ◌||◌}
-use mathlib.Core.Option.{none, some}
+use mathlib.Core.Option.{Option, none, some}
 use mathlib.Core.List.{List, [], ◌∷◌}
 use Prim.Native.Nat.{ℕ, suc, ◌<◌, ◌≤◌}
 use lib.Dec.{eqb, eqb-zero-suc, eqb-suc-suc}
@@ -16,14 +16,11 @@ use Rattle.rules.specs.Start.{sized, misnamed, refuses_start}
 use Rattle.rules.specs.Start as rules
 use Rattle.fields.specs.Names.{number_in}
 use Rattle.fields.specs.Names as text
-use Rattle.chroms.specs.declared.Check.{Check}
-use Rattle.chroms.specs.declared.Check.TheVariants as check
+use Rattle.std.specs.Prelude.{Result, Ok, Err}
+use Rattle.rules.specs.declared.Unbegun.{Unbegun}
 use Rattle.chroms.specs.Check.{named, absent, all_named, check_of}
 use Rattle.runs.specs.declared.Run.{Run}
-use Rattle.runs.specs.declared.start.Begins.{Begins}
-use Rattle.runs.specs.declared.start.Begins.TheVariants.{Refused}
-use Rattle.runs.specs.declared.start.Started.{Started}
-use Rattle.runs.specs.Start.{Plan, names_of, counted, evened, ranged, in_rows, in_text, lendable, refused_of, judged_by, begun_by, begins_of, run_from, start_of}
+use Rattle.runs.specs.Start.{Plan, names_of, counted, evened, ranged, in_rows, in_text, lendable, refused_of, fresh_run, started, start_of}
 
 -- ---- names: the list's test and the rules'
 
@@ -110,23 +107,26 @@ module _ (p : Plan) where
       go false true m = refl
       go false false m = refl
 
-  -- the same as the code judges it
-  begins_judged : begins_of p ≡ judged_by (sized_of p && fits p) (check_of p.text p.names_from p.names_to)
-  unfolding lendable check_of
-  begins_judged = ap begun_by judged ∙ go (sized_of p) (counted p) refl refl
-    where
-      unsized : (list : Check) → Refused unbegun.Sizes ≡ judged_by false list
-      unsized check.Fine = refl
-      unsized check.Sizes = refl
-      unsized check.Names = refl
+  -- the same as the code judges it: where all fits but for the names' text, what the check of the list says
+  abbrev judged_by : Bool → Result (Unit {0}) Unbegun → Result Run Unbegun
+  judged_by fits (Ok u) = cond fits (Ok (fresh_run p.settings p.from p.to)) (Err unbegun.Sizes)
+  judged_by fits (Err x) = cond fits (Err x) (Err unbegun.Sizes)
 
-      by_tests : (f w a : Bool) → begun_by (cond (f && w) (cond a none (some unbegun.Names)) (some unbegun.Sizes)) ≡ judged_by f (cond (w && true) (cond a check.Fine check.Names) check.Sizes)
+  start_judged : start_of p ≡ judged_by (sized_of p && fits p) (check_of p.text p.names_from p.names_to)
+  unfolding lendable check_of
+  start_judged = ap (λ o. started o p) judged ∙ go (sized_of p) (counted p) refl refl
+    where
+      unsized : (list : Result (Unit {0}) Unbegun) → ◌≡◌ {A = Result Run Unbegun} (Err unbegun.Sizes) (judged_by false list)
+      unsized (Ok u) = refl
+      unsized (Err x) = refl
+
+      by_tests : (f w a : Bool) → started (cond (f && w) (cond a none (some unbegun.Names)) (some unbegun.Sizes)) p ≡ judged_by f (cond (w && true) (cond a (Ok tt) (Err unbegun.Names)) (Err unbegun.Sizes))
       by_tests true true true = refl
       by_tests true true false = refl
       by_tests true false a = refl
-      by_tests false w a = unsized (cond (w && true) (cond a check.Fine check.Names) check.Sizes)
+      by_tests false w a = unsized (cond (w && true) (cond a (Ok tt) (Err unbegun.Names)) (Err unbegun.Sizes))
 
-      go : (t k : Bool) → sized_of p ≡ t → counted p ≡ k → begun_by (cond (t && (k && evened p.cols && in_rows p && in_text p)) (cond (all_named (names_of p)) none (some unbegun.Names)) (some unbegun.Sizes)) ≡
+      go : (t k : Bool) → sized_of p ≡ t → counted p ≡ k → started (cond (t && (k && evened p.cols && in_rows p && in_text p)) (cond (all_named (names_of p)) none (some unbegun.Names)) (some unbegun.Sizes)) p ≡
           judged_by (t && (k && evened p.cols && in_rows p)) (check_of p.text p.names_from p.names_to)
       go true true e f =
           let z = sized_true p e in
@@ -135,9 +135,29 @@ module _ (p : Plan) where
       go true false e f = unsized (check_of p.text p.names_from p.names_to)
       go false k e f = unsized (check_of p.text p.names_from p.names_to)
 
-  -- the answer and the run that goes with it, from what each test says
-  pub started : (fit range : Bool) (list : Check) (d : Begins) (r : Run) → fit ≡ sized_of p → range ≡ in_rows p → list ≡ check_of p.text p.names_from p.names_to →
-      d ≡ judged_by (fit && (counted p && evened p.cols && range)) list → r ≡ run_from d p → ◌≡◌ {A = Started} (record { run = r; begins = d }) (start_of p)
-  started fit range list d r fits ranges lists e f =
-      let h : d ≡ begins_of p = e ∙ rw (fits, ranges, lists) (sym begins_judged) in
-      rw (f, h)
+  -- the answer, from what each test says
+  module _ (fit range : Bool) (fits_so : fit ≡ sized_of p) (ranges_so : range ≡ in_rows p) where
+    tested : fit && (counted p && evened p.cols && range) ≡ sized_of p && fits p
+    tested = rw (fits_so, ranges_so)
+
+    pub start_unfit : fit && (counted p && evened p.cols && range) ≡ false → ◌≡◌ {A = Result Run Unbegun} (Err unbegun.Sizes) (start_of p)
+    start_unfit e = sym (start_judged ∙ rw (sym tested ∙ e) (unfit (check_of p.text p.names_from p.names_to)))
+      where
+        unfit : (list : Result (Unit {0}) Unbegun) → ◌≡◌ {A = Result Run Unbegun} (judged_by false list) (Err unbegun.Sizes)
+        unfit (Ok u) = refl
+        unfit (Err x) = refl
+
+    module _ (fit_all : fit && (counted p && evened p.cols && range) ≡ true) where
+      pub start_named : {u : Unit {0}} → Ok u ≡ check_of p.text p.names_from p.names_to → {r : Run} → r ≡ fresh_run p.settings p.from p.to → Ok r ≡ start_of p
+      start_named e f = rw f (sym (start_judged ∙ rw (sym tested ∙ fit_all, ← e)))
+
+      pub start_misnamed : {x : Unbegun} → Err x ≡ check_of p.text p.names_from p.names_to → Err x ≡ start_of p
+      start_misnamed e = sym (start_judged ∙ rw (sym tested ∙ fit_all, ← e))
+
+-- a start that begins a run refused nothing, and the run is the fresh one
+pub begun_is : (p : Plan) {r : Run} → start_of p ≡ Ok r → (refused_of p ≡ none) × (r ≡ fresh_run p.settings p.from p.to)
+begun_is p {r} e = go (refused_of p) e
+  where
+    go : (o : Option Unbegun) → started o p ≡ Ok r → (o ≡ none) × (r ≡ fresh_run p.settings p.from p.to)
+    go none q = (refl, cc)
+    go (some x) q = cc

@@ -1,5 +1,5 @@
 -- Beginning a run: what is refused, the run that begins, and what it stands for.
-use Rattle.std.specs.Prelude.{◌≡◌, Bool, cond, ◌&&◌, List, ℕ, ◌-◌, ◌≤◌, eqb, leb, length, get_or}
+use Rattle.std.specs.Prelude.{◌≡◌, Bool, cond, ◌&&◌, List, ℕ, ◌-◌, ◌≤◌, eqb, leb, length, get_or, Result, Ok, Err}
 use Rattle.std.proofs.Math.Option.{Option, none, some}
 use Rattle.basics.specs.Build.{build, upto}
 use Rattle.basics.specs.Lists.{all}
@@ -7,16 +7,11 @@ use Rattle.rules.specs.declared.Row.{Row}
 use Rattle.rules.specs.declared.Stage.TheVariants.{Fresh}
 use Rattle.rules.specs.declared.Settings.{Settings}
 use Rattle.rules.specs.declared.Unbegun.{Unbegun}
-use Rattle.rules.specs.declared.Unbegun.TheVariants.{Sizes, Names}
+use Rattle.rules.specs.declared.Unbegun.TheVariants.{Sizes}
 use Rattle.rules.specs.Start.{refuses_start}
 use Rattle.fields.specs.Names.{within, names}
-use Rattle.chroms.specs.declared.Check.{Check}
-use Rattle.chroms.specs.declared.Check.TheVariants as check
 use Rattle.heads.specs.View.{Cols}
 use Rattle.runs.specs.declared.Run.{Run}
-use Rattle.runs.specs.declared.start.Begins.{Begins}
-use Rattle.runs.specs.declared.start.Begins.TheVariants.{Begun, Refused}
-use Rattle.runs.specs.declared.start.Started.{Started}
 use Rattle.runs.specs.Marks.{mark_of}
 use Rattle.runs.specs.View.{eight}
 use Rattle.pulls.specs.Pulls.{Lent}
@@ -83,35 +78,26 @@ refused_of p = cond (lendable p) (refuses_start p.settings (names_of p)) (some S
 
 -- ---- the answer
 
--- 1 comes first: the next answer where all fits
-abbrev pub after_one : Bool → Begins → Begins
-after_one fits next = cond fits next (Refused Sizes)
-
--- 1, then 2, from whether all fits but for the names, and what the check of their list says
-abbrev pub judged_by : Bool → Check → Begins
-judged_by fits check.Fine = after_one fits Begun
-judged_by fits check.Sizes = Refused Sizes
-judged_by fits check.Names = after_one fits (Refused Names)
-
-abbrev pub begun_by : Option Unbegun → Begins
-begun_by none = Begun
-begun_by (some x) = Refused x
-
-abbrev pub begins_of : Plan → Begins
-begins_of p = begun_by (refused_of p)
-
 -- a run that has accepted no base: its heads are not loaded and nothing waits
 abbrev pub fresh_run : Settings → List ℕ → List ℕ → Run
 fresh_run fixed from to = record { chrom = eight 0; start = eight 0; stop = eight 0; row = eight 0; ended = eight 1; next = from; from = from; to = to; settings = fixed; head = 0; len = 0; place = 0; mark = mark_of Fresh }
 
--- "no run begins": the run of no streams is given back
-abbrev pub run_from : Begins → Plan → Run
-run_from Begun p = fresh_run p.settings p.from p.to
-run_from (Refused x) p = fresh_run (record { streams = 0; chroms = 0; room = 0 }) (eight 0) (eight 0)
+-- the run of no streams
+abbrev pub none_run : Run
+none_run = fresh_run (record { streams = 0; chroms = 0; room = 0 }) (eight 0) (eight 0)
+
+abbrev pub started : Option Unbegun → Plan → Result Run Unbegun
+started none p = Ok (fresh_run p.settings p.from p.to)
+started (some x) p = Err x
 
 -- what a start gives, of any values
-abbrev pub start_of : Plan → Started
-start_of p = record { run = run_from (begins_of p) p; begins = begins_of p }
+abbrev pub start_of : Plan → Result Run Unbegun
+start_of p = started (refused_of p) p
+
+-- "no run begins": the run of no streams is kept
+abbrev pub kept_of : Result Run Unbegun → Run
+kept_of (Ok r) = r
+kept_of (Err x) = none_run
 
 -- ---- what is lent with a base
 

@@ -12,7 +12,6 @@ use heads::Heads;
 pub use mark::Mark;
 use queue::Ring;
 use rules::{Answer, Chrom, End, Settings, Stage};
-pub use start::{Begins, Started};
 
 // A run: of each stream its head's chromosome, start, stop and row, its mark (0: it goes on), the place of the row behind its head in the lent
 // columns and where its rows begin and end there; what is fixed from the start; where the oldest that waits stands, how many wait and the chromosome

@@ -1,8 +1,9 @@
 // A run begins, and a base is given to it; what comes is written.
 use crate::SLOTS;
 use crate::cases::{Bench, Memory, Rows};
-use rules::{Answer, Base, End, Offer, Settings, Unbegun};
-use runs::{Begins, Run};
+use fields::NameList;
+use rules::{Answer, Base, End, Offer, Settings};
+use runs::Run;
 use std::io;
 use tests_shared::{at, front, name_ends, name_starts, name_text, part_mut};
 
@@ -96,16 +97,7 @@ pub fn give(rt: &impl Print, bench: &Bench, b: Base, memory: &mut Memory) -> io:
     Ok(given.run)
 }
 
-// Whether a run begins.
-fn show_start(rt: &impl Print, b: Begins) -> io::Result<()> {
-    match b {
-        Begins::Begun => print!(rt; ": begun"),
-        Begins::Refused(Unbegun::Sizes) => print!(rt; ": refused 1"),
-        Begins::Refused(Unbegun::Names) => print!(rt; ": refused 2"),
-    }
-}
-
-// A run begins, with a room, and with as much of each slice as is lent.
+// A run begins, with a room, and with as much of each slice as is lent; where none does, the run of no streams.
 pub fn begin(rt: &impl Print, bench: &Bench, room: usize, rows: &Rows) -> io::Result<Run> {
     let plan = bench.plan;
     let lens = bench.here.lens;
@@ -121,18 +113,19 @@ pub fn begin(rt: &impl Print, bench: &Bench, room: usize, rows: &Rows) -> io::Re
         chroms: plan.chroms,
         room,
     };
-    let rows = rows.lent(lens);
-    let started = Run::start(
-        fixed,
-        plan.from,
-        plan.to,
-        &text,
-        front(&from, lens[6]),
-        front(&to, lens[7]),
-        rows.chrom,
-        rows.start,
-        rows.stop,
-    );
-    show_start(rt, started.begins)?;
-    Ok(started.run)
+    let names = NameList {
+        text: &text,
+        from: front(&from, lens[6]),
+        to: front(&to, lens[7]),
+    };
+    match Run::start(fixed, plan.from, plan.to, names, rows.lent(lens)) {
+        Ok(run) => {
+            print!(rt; ": begun")?;
+            Ok(run)
+        }
+        Err(x) => {
+            print!(rt; ": refused {}", x.number())?;
+            Ok(Run::none())
+        }
+    }
 }

@@ -4,257 +4,216 @@
 
 ghost use Rattle.std.specs.Prelude.{◌≤◌, length, IfOk};
 
-use chroms::{Check, Lookup};
-use fields::Reading;
+use fields::{NameList, ReadError};
+use rules::Unbegun;
+use std::fmt::Display;
 use std::io;
 use std::io::Read;
 
-fn put(rt: &impl Print, bytes: &[u8]) -> io::Result<()> {
-    rt.write_all(bytes)
-}
-
-fn number(rt: &impl Print, n: u64) -> io::Result<()> {
-    rt.print(n)
-}
-
 // How a reading ended: its refusal number or 0, and the rows ahead.
-fn ended(rt: &impl Print, r: Reading) -> io::Result<()> {
+fn ended(rt: &impl Print, r: Result<usize, ReadError>) -> io::Result<()> {
     match r {
-        Reading::Whole(n) => {
-            put(rt, b"0 ")?;
-            number(rt, n as u64)
-        }
-        Reading::Malformed(n) => {
-            put(rt, b"11 ")?;
-            number(rt, n as u64)
-        }
-        Reading::Full(n) => {
-            put(rt, b"12 ")?;
-            number(rt, n as u64)
-        }
-        Reading::Refused => put(rt, b"1"),
+        Ok(n) => print!(rt; "0 {n}"),
+        Err(ReadError::Refused) => print!(rt; "1"),
+        Err(e) => print!(rt; "{} {}", e.number(), e.rows()),
     }
 }
 
-// One slot of three columns.
-fn slot(rt: &impl Print, a: u64, b: u64, c: u64) -> io::Result<()> {
-    put(rt, b" | ")?;
-    number(rt, a)?;
-    put(rt, b" ")?;
-    number(rt, b)?;
-    put(rt, b" ")?;
-    number(rt, c)
-}
-
-// Three slots of three columns.
-fn slots(rt: &impl Print, a: &[u64; 3], b: &[u64; 3], c: &[u64; 3]) -> io::Result<()> {
-    slot(rt, a[0], b[0], c[0])?;
-    slot(rt, a[1], b[1], c[1])?;
-    slot(rt, a[2], b[2], c[2])?;
-    put(rt, b"\n")
-}
-
-// The same for columns of which two hold places.
-fn places(rt: &impl Print, a: &[usize; 3], b: &[usize; 3], c: &[u64; 3]) -> io::Result<()> {
-    slot(rt, a[0] as u64, b[0] as u64, c[0])?;
-    slot(rt, a[1] as u64, b[1] as u64, c[1])?;
-    slot(rt, a[2] as u64, b[2] as u64, c[2])?;
-    put(rt, b"\n")
+// The slots of three columns, of which the first two hold places or numbers.
+fn slots<T: Display>(rt: &impl Print, a: &[T], b: &[T], c: &[u64]) -> io::Result<()> {
+    for ((a, b), c) in a.iter().zip(b).zip(c) {
+        print!(rt; " | {a} {b} {c}")?;
+    }
+    println!(rt)
 }
 
 // A chromosome list read to columns of three slots.
 fn list(rt: &impl Print, text: &[u8]) -> io::Result<()> {
-    let mut from = [7usize; 3];
-    let mut to = [7usize; 3];
-    let mut len = [7u64; 3];
+    let mut from = [7; 3];
+    let mut to = [7; 3];
+    let mut len = [7; 3];
     let r = chroms::read_list(text, &mut from, &mut to, &mut len);
     ended(rt, r)?;
-    places(rt, &from, &to, &len)
+    slots(rt, &from, &to, &len)
 }
 
-// Rows read to columns of three slots, with a list whose names are given as columns.
-fn listed(
-    rt: &impl Print,
-    text: &[u8],
-    names: &[u8],
-    from: &[usize],
-    to: &[usize],
-) -> io::Result<()> {
-    let mut chrom = [7u64; 3];
-    let mut start = [7u64; 3];
-    let mut stop = [7u64; 3];
-    let r = rows::read_rows(text, names, from, to, &mut chrom, &mut start, &mut stop);
+// Rows read to columns of three slots, with the names of a list.
+fn listed(rt: &impl Print, text: &[u8], names: NameList) -> io::Result<()> {
+    let mut chrom = [7; 3];
+    let mut start = [7; 3];
+    let mut stop = [7; 3];
+    let r = rows::read_rows(text, names, &mut chrom, &mut start, &mut stop);
     ended(rt, r)?;
     slots(rt, &chrom, &start, &stop)
 }
 
 // Rows read with the chromosomes one and two.
 fn rows(rt: &impl Print, text: &[u8]) -> io::Result<()> {
-    listed(rt, text, b"one\t1000\ntwo\n", &[0, 9], &[3, 12])
+    let names = NameList {
+        text: b"one\t1000\ntwo\n",
+        from: &[0, 9],
+        to: &[3, 12],
+    };
+    listed(rt, text, names)
 }
 
 // Columns that differ in length: nothing is written.
 fn uneven(rt: &impl Print) -> io::Result<()> {
-    let names = b"one\ntwo\n";
-    let text = b"one\t1\t2\n";
-    let mut from = [7usize; 3];
-    let mut to = [7usize; 2];
-    let mut len = [7u64; 3];
-    let r = chroms::read_list(names, &mut from, &mut to, &mut len);
-    put(rt, b"list columns of 3, 2 and 3: ")?;
+    let names = NameList {
+        text: b"one\ntwo\n",
+        from: &[0, 4],
+        to: &[3, 7],
+    };
+    let mut from = [7; 3];
+    let mut to = [7; 2];
+    let mut len = [7; 3];
+    let r = chroms::read_list(names.text, &mut from, &mut to, &mut len);
+    print!(rt; "list columns of 3, 2 and 3: ")?;
     ended(rt, r)?;
-    slot(rt, from[0] as u64, to[0] as u64, len[0])?;
-    let known = [0usize, 4];
-    let ends = [3usize, 7];
-    let mut chrom = [7u64; 3];
-    let mut start = [7u64; 3];
-    let mut stop = [7u64; 2];
-    let q = rows::read_rows(
-        text, names, &known, &ends, &mut chrom, &mut start, &mut stop,
-    );
-    put(rt, b"\nrows columns of 3, 3 and 2: ")?;
-    ended(rt, q)?;
-    slot(rt, chrom[0], start[0], stop[0])?;
-    put(rt, b"\n")
+    slots(rt, &from[..1], &to[..1], &len[..1])?;
+    let mut chrom = [7; 3];
+    let mut start = [7; 3];
+    let mut stop = [7; 2];
+    let r = rows::read_rows(b"one\t1\t2\n", names, &mut chrom, &mut start, &mut stop);
+    print!(rt; "rows columns of 3, 3 and 2: ")?;
+    ended(rt, r)?;
+    slots(rt, &chrom[..1], &start[..1], &stop[..1])
 }
 
 // A list of names checked: its refusal number or 0.
-fn check(
-    rt: &impl Print,
-    label: &[u8],
-    text: &[u8],
-    from: &[usize],
-    to: &[usize],
-) -> io::Result<()> {
-    put(rt, b"check ")?;
-    put(rt, label)?;
-    match chroms::check_list(text, from, to) {
-        Check::Fine => put(rt, b": 0\n"),
-        Check::Sizes => put(rt, b": 1\n"),
-        Check::Names => put(rt, b": 2\n"),
-    }
+fn check(rt: &impl Print, label: &str, list: NameList) -> io::Result<()> {
+    let number = match chroms::check_list(list) {
+        Ok(()) => 0,
+        Err(Unbegun::Sizes) => 1,
+        Err(Unbegun::Names) => 2,
+    };
+    println!(rt; "check {label}: {number}")
 }
 
 // A list of two lines read and then checked.
-fn check_two(rt: &impl Print, label: &[u8], text: &[u8]) -> io::Result<()> {
-    let mut from = [7usize; 2];
-    let mut to = [7usize; 2];
-    let mut len = [7u64; 2];
-    chroms::read_list(text, &mut from, &mut to, &mut len);
-    check(rt, label, text, &from, &to)
+fn check_two(rt: &impl Print, label: &str, text: &[u8]) -> io::Result<()> {
+    let mut from = [7; 2];
+    let mut to = [7; 2];
+    let mut len = [7; 2];
+    let _ = chroms::read_list(text, &mut from, &mut to, &mut len);
+    let list = NameList {
+        text,
+        from: &from,
+        to: &to,
+    };
+    check(rt, label, list)
 }
 
 // A name asked for.
-fn find(rt: &impl Print, name: &[u8], from: &[usize], to: &[usize]) -> io::Result<()> {
-    put(rt, b"find ")?;
-    put(rt, name)?;
-    match chroms::find_name(b"one\ntwo\n", from, to, name) {
-        Lookup::Number(n) => {
-            put(rt, b": ")?;
-            number(rt, n as u64)?;
-            put(rt, b"\n")
-        }
-        Lookup::Refused => put(rt, b": refused\n"),
+fn find(rt: &impl Print, name: &str, from: &[usize], to: &[usize]) -> io::Result<()> {
+    let list = NameList {
+        text: b"one\ntwo\n",
+        from,
+        to,
+    };
+    match chroms::find_name(list, name.as_bytes()) {
+        Some(n) => println!(rt; "find {name}: {n}"),
+        None => println!(rt; "find {name}: refused"),
     }
-}
-
-// Where the byte b stands from `from` on, or where the bytes end.
-fn until(bytes: &[u8], from: usize, b: u8) -> usize
-    requires { from ≤ length bytes.now }
-    ensures { (from ≤ result) × (result ≤ length bytes.now) }
-{
-    let mut i = from;
-    while i < bytes.len() {
-        if bytes[i] == b {
-            return i;
-        }
-        i += 1;
-    }
-    i
 }
 
 // One sample: a line that says what it is, `list` or `rows` first, and then the text.
 fn sample(rt: &impl Print, case: &[u8]) -> io::Result<()> {
-    let k = until(case, 0, b'\n');
-    put(rt, &case[0..k])?;
-    put(rt, b": ")?;
-    if k == case.len() {
-        return Ok(());
-    }
+    let Some(k) = case.iter().position(|b| *b == b'\n') else {
+        rt.write_all(case)?;
+        return print!(rt; ": ");
+    };
+    rt.write_all(&case[..k])?;
+    print!(rt; ": ")?;
+    let text = &case[k + 1..];
     if case[0] == b'l' {
-        return list(rt, &case[k + 1..]);
+        return list(rt, text);
     }
-    rows(rt, &case[k + 1..])
+    rows(rt, text)
 }
 
 // The samples of standard input, each up to a byte 30.
 fn samples(rt: &impl Print, all: &[u8]) -> io::Result<()> {
-    let mut at = 0;
-    while at < all.len() {
-        let e = until(all, at, 30);
-        sample(rt, &all[at..e])?;
-        if e == all.len() {
-            return Ok(());
-        }
-        at = e + 1;
+    for part in all.split_inclusive(|b| *b == 30) {
+        sample(rt, part.strip_suffix(&[30]).unwrap_or(part))?;
     }
     Ok(())
 }
 
 // Lists of two lines that are and are not fine.
 fn two_names(rt: &impl Print) -> io::Result<()> {
-    check_two(rt, b"two names", b"one\ntwo\n")?;
-    check_two(rt, b"a name twice", b"one\none\n")?;
-    check_two(rt, b"an empty name", b"\t5\none\n")?;
-    check_two(rt, b"a name that starts another", b"one\nones\n")
+    check_two(rt, "two names", b"one\ntwo\n")?;
+    check_two(rt, "a name twice", b"one\none\n")?;
+    check_two(rt, "an empty name", b"\t5\none\n")?;
+    check_two(rt, "a name that starts another", b"one\nones\n")
 }
 
 // A check of names in a text of 300 bytes, all the same.
-fn check_long(rt: &impl Print, label: &[u8], from: &[usize], to: &[usize]) -> io::Result<()> {
-    check(rt, label, &[120u8; 300], from, to)
+fn check_long(rt: &impl Print, label: &str, from: &[usize], to: &[usize]) -> io::Result<()> {
+    let list = NameList {
+        text: &[b'x'; 300],
+        from,
+        to,
+    };
+    check(rt, label, list)
 }
 
 // Long names, and columns that are none.
 fn sizes(rt: &impl Print) -> io::Result<()> {
-    check_long(rt, b"255 bytes", &[0], &[255])?;
-    check_long(rt, b"256 bytes", &[0], &[256])?;
-    check_long(rt, b"beyond the text", &[0, 290], &[300, 301])?;
-    check_long(rt, b"a stop before its start", &[2], &[1])?;
-    check_long(rt, b"columns of 1 and 2", &[0], &[1, 2])?;
-    check_long(rt, b"no name", &[], &[])
+    check_long(rt, "255 bytes", &[0], &[255])?;
+    check_long(rt, "256 bytes", &[0], &[256])?;
+    check_long(rt, "beyond the text", &[0, 290], &[300, 301])?;
+    check_long(rt, "a stop before its start", &[2], &[1])?;
+    check_long(rt, "columns of 1 and 2", &[0], &[1, 2])?;
+    check_long(rt, "no name", &[], &[])
 }
 
 // Many names.
 fn counts(rt: &impl Print) -> io::Result<()> {
-    check_long(rt, b"257 names", &[0; 257], &[1; 257])?;
-    check_long(rt, b"256 names, all the same", &[0; 256], &[1; 256])
+    check_long(rt, "257 names", &[0; 257], &[1; 257])?;
+    check_long(rt, "256 names, all the same", &[0; 256], &[1; 256])
 }
 
 // Names and their numbers.
 fn numbers(rt: &impl Print) -> io::Result<()> {
-    find(rt, b"one", &[0, 4], &[3, 7])?;
-    find(rt, b"two", &[0, 4], &[3, 7])?;
-    find(rt, b"six", &[0, 4], &[3, 7])?;
-    find(rt, b"on", &[0, 4], &[3, 7])?;
-    find(rt, b"ones", &[0, 4], &[3, 7])
+    find(rt, "one", &[0, 4], &[3, 7])?;
+    find(rt, "two", &[0, 4], &[3, 7])?;
+    find(rt, "six", &[0, 4], &[3, 7])?;
+    find(rt, "on", &[0, 4], &[3, 7])?;
+    find(rt, "ones", &[0, 4], &[3, 7])
 }
 
 // The empty name, a name twice, no name, a name beyond the text.
 fn other_numbers(rt: &impl Print) -> io::Result<()> {
-    find(rt, b"", &[0, 4], &[3, 7])?;
-    find(rt, b"two", &[4, 4], &[7, 7])?;
-    find(rt, b"one", &[], &[])?;
-    find(rt, b"one", &[0, 4], &[3, 9])
+    find(rt, "", &[0, 4], &[3, 7])?;
+    find(rt, "two", &[4, 4], &[7, 7])?;
+    find(rt, "one", &[], &[])?;
+    find(rt, "one", &[0, 4], &[3, 9])
 }
 
 // Rows with other lists.
 fn other_lists(rt: &impl Print) -> io::Result<()> {
-    put(rt, b"rows a list of no name: ")?;
-    listed(rt, b"one\t1\t2\n", b"", &[], &[])?;
-    put(rt, b"rows a list that names a tab: ")?;
-    listed(rt, b"a\t3\t4\na\tb\t1\t2\n", b"a\tb", &[0, 0], &[3, 1])?;
-    put(rt, b"rows a list beyond its text: ")?;
-    listed(rt, b"one\t1\t2\n", b"one", &[0], &[4])
+    let none = NameList {
+        text: b"",
+        from: &[],
+        to: &[],
+    };
+    let with_tab = NameList {
+        text: b"a\tb",
+        from: &[0, 0],
+        to: &[3, 1],
+    };
+    let beyond = NameList {
+        text: b"one",
+        from: &[0],
+        to: &[4],
+    };
+    print!(rt; "rows a list of no name: ")?;
+    listed(rt, b"one\t1\t2\n", none)?;
+    print!(rt; "rows a list that names a tab: ")?;
+    listed(rt, b"a\t3\t4\na\tb\t1\t2\n", with_tab)?;
+    print!(rt; "rows a list beyond its text: ")?;
+    listed(rt, b"one\t1\t2\n", beyond)
 }
 
 // Reads until the buffer is full or the input ends; how many bytes were put at its start.

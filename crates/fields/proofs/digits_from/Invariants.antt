@@ -1,9 +1,5 @@
-use Prim.Native.Nat.{◌-◌, ◌≤◌}
 use Rattle.fields.specs.Scan.{Counting}
 use Rattle.fields.proofs.digits_from.Given as goal
 
 abbrev pub invariant-loop-i : goal.invariant-loop-i
-invariant-loop-i l = Counting l.text l.from l.i l.v × (l.i ≤ l.to)
-
-abbrev pub decreases-loop-i : goal.decreases-loop-i
-decreases-loop-i l = l.to - l.i
+invariant-loop-i l = Counting l.text l.from l.i l.value

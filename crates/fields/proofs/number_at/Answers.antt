@@ -1,36 +1,19 @@
 -- `fields::number_at` meets its contract: 19 digits at most are counted, and the byte behind them decides. Assumes nothing.
-use mathlib.Core.Path.{sym}
-use native.Mathlib.Omega.{arith}
-use Rattle.fields.proofs.Scan.{tab_out, lf_out, field_in}
-use Rattle.fields.proofs.Numbers.{counting_few, number_empty, number_other, number_last, number_before}
+use Rattle.std.proofs.Common.{arith, sym}
+use Rattle.fields.proofs.Numbers.{counting_few, number_empty, number_other, number_ends}
 use Rattle.fields.proofs.number_at.Goals as goal
 
-pub returns-then-stop-from : goal.returns-then-stop-from
-returns-then-stop-from c =
-    let r = c.digits_from-d.ensures in
-    sym (number_empty r.counting c.if-stop-from.true (λ h. r.stopped (omega (arith, h))))
+pub returns-then-digits-from : goal.returns-then-digits-from
+returns-then-digits-from c =
+    let r = c.digits_from-digits.ensures in
+    sym (number_empty r.counting c.if-digits-from.true (λ h. r.stopped (omega (arith, h))))
 
-pub returns-then-stop-end : goal.returns-then-stop-end
-returns-then-stop-end c =
-    let r = c.digits_from-d.ensures in
-    sym (number_last r.counting (omega (arith, r.counting.low)) (omega arith) (omega (arith, counting_few r.counting 19 (omega arith))) c.if-stop-end.true)
+pub returns-then-is_over : goal.returns-then-is_over
+returns-then-is_over c =
+    let r = c.digits_from-digits.ensures in
+    sym (number_ends r.counting (c.is_over.ensures.over c.if-is_over.true) (omega (arith, r.counting.low)) (omega (arith, r.high)) (omega (arith, counting_few r.counting 19 (omega (arith, r.high)))))
 
-pub returns-then-b-eq9 : goal.returns-then-b-eq9
-returns-then-b-eq9 c =
-    let r = c.digits_from-d.ensures in
-    sym (number_before r.counting (omega (arith, r.counting.low)) (omega arith) (omega (arith, counting_few r.counting 19 (omega arith))) (omega arith) (tab_out _ c.if-b-eq9.true))
-
-pub returns-then-b-eq10 : goal.returns-then-b-eq10
-returns-then-b-eq10 c =
-    let r = c.digits_from-d.ensures in
-    sym (number_before r.counting (omega (arith, r.counting.low)) (omega arith) (omega (arith, counting_few r.counting 19 (omega arith))) (omega arith) (lf_out _ c.if-b-eq10.true))
-
-pub returns-then-stop-far : goal.returns-then-stop-far
-returns-then-stop-far c =
-    let r = c.digits_from-d.ensures in
-    sym (number_other r.counting (omega arith) (field_in _ c.if-b-eq9.false c.if-b-eq10.false) (r.stopped (omega arith)))
-
-pub twentieth-requires : goal.twentieth-requires
-twentieth-requires c =
-    let r = c.digits_from-d.ensures in
-    (r.counting, omega arith, omega arith, field_in _ c.if-b-eq9.false c.if-b-eq10.false)
+pub returns-then-digits-far : goal.returns-then-digits-far
+returns-then-digits-far c =
+    let r = c.digits_from-digits.ensures in
+    sym (number_other r.counting (c.is_over.ensures.inside c.if-is_over.false) (c.is_over.ensures.more c.if-is_over.false) (r.stopped (omega (arith, c.is_over.ensures.inside c.if-is_over.false))))

@@ -1,41 +1,25 @@
 -- `fields::twentieth` meets its contract: one digit more, if it is one, fits and is the last. Assumes nothing.
-use mathlib.Core.Path.{sym}
-use native.Mathlib.Omega.{arith}
-use Rattle.fields.proofs.Scan.{tab_out, lf_out, field_in}
-use Rattle.fields.proofs.Numbers.{counting_digit, number_other, number_large, number_long, number_last, number_before, digit_low, digit_high}
+use Rattle.std.proofs.Common.{arith, sym, ◌∙◌, get_or}
+use Rattle.fields.proofs.Numbers.{counting_more, number_other, number_large, number_long, number_ends, digit_none}
 use Rattle.fields.proofs.twentieth.Goals as goal
 
-pub returns-then-b-lt48 : goal.returns-then-b-lt48
-returns-then-b-lt48 c = sym (number_other c.requires.0 c.requires.2 c.requires.3 (digit_low _ c.if-b-lt48.true))
+pub returns-then-not-matches : goal.returns-then-not-matches
+returns-then-not-matches c = sym (number_other c.requires.0 c.requires.2 c.requires.3 (digit_none (get_or c.args.text.now c.args.at 0) (λ p q. omega (arith, p, q))))
 
-pub returns-then-b-gt57 : goal.returns-then-b-gt57
-returns-then-b-gt57 c =
-    sym (number_other c.requires.0 c.requires.2 c.requires.3 (digit_high _ c.if-b-gt57.true))
+pub returns-in_err-checked_mul : goal.returns-in_err-checked_mul
+returns-in_err-checked_mul c =
+    c.from_residual.ensures ∙ sym (number_large c.requires.0 c.requires.2 (omega arith) (omega arith) (omega (arith, c.in_err-checked_mul.ensures)))
 
-pub returns-then-v-gt1844674407370955161 : goal.returns-then-v-gt1844674407370955161
-returns-then-v-gt1844674407370955161 c =
-    sym (number_large c.requires.0 c.requires.2 c.if-b-lt48.false c.if-b-gt57.false (omega arith))
+pub returns-in_err-value : goal.returns-in_err-value
+returns-in_err-value c =
+    c.from_residual-in_err-value.ensures ∙ sym (number_large c.requires.0 c.requires.2 (omega arith) (omega arith) (omega (arith, c.in_err-value.ensures, c.in_ok-checked_mul.ensures)))
 
-pub returns-then-w-d : goal.returns-then-w-d
-returns-then-w-d c =
-    sym (number_large c.requires.0 c.requires.2 c.if-b-lt48.false c.if-b-gt57.false (omega arith))
-
-pub returns-then-n-text : goal.returns-then-n-text
-returns-then-n-text c =
-    let n = counting_digit c.requires.0 c.requires.2 c.if-b-lt48.false c.if-b-gt57.false in
-    rw c.wide-d.ensures (sym (number_last n (omega arith) (omega arith) (omega arith) c.if-n-text.true))
-
-pub returns-then-e-eq9 : goal.returns-then-e-eq9
-returns-then-e-eq9 c =
-    let n = counting_digit c.requires.0 c.requires.2 c.if-b-lt48.false c.if-b-gt57.false in
-    rw c.wide-d.ensures (sym (number_before n (omega arith) (omega arith) (omega arith) (omega arith) (tab_out _ c.if-e-eq9.true)))
-
-pub returns-then-e-eq10 : goal.returns-then-e-eq10
-returns-then-e-eq10 c =
-    let n = counting_digit c.requires.0 c.requires.2 c.if-b-lt48.false c.if-b-gt57.false in
-    rw c.wide-d.ensures (sym (number_before n (omega arith) (omega arith) (omega arith) (omega arith) (lf_out _ c.if-e-eq10.true)))
+pub returns-then-is_over : goal.returns-then-is_over
+returns-then-is_over c =
+    let n = counting_more c.requires.0 c.requires.2 (omega arith) (omega arith) {w = c.in_ok-value.value} (omega (arith, c.in_ok-value.ensures, c.in_ok-checked_mul.ensures)) in
+    sym (number_ends n (c.is_over.ensures.over c.if-is_over.true) (omega arith) (omega arith) (omega arith))
 
 pub returns : goal.returns
 returns c =
-    let n = counting_digit c.requires.0 c.requires.2 c.if-b-lt48.false c.if-b-gt57.false in
-    sym (number_long n (omega arith) (field_in _ c.if-e-eq9.false c.if-e-eq10.false) (omega arith))
+    let n = counting_more c.requires.0 c.requires.2 (omega arith) (omega arith) {w = c.in_ok-value.value} (omega (arith, c.in_ok-value.ensures, c.in_ok-checked_mul.ensures)) in
+    sym (number_long n (c.is_over.ensures.inside c.if-is_over.false) (c.is_over.ensures.more c.if-is_over.false) (omega arith))

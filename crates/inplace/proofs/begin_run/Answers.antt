@@ -1,8 +1,9 @@
 -- `begin_run` meets its contract.
-use Rattle.heads.specs.View.{cols}
+use Rattle.heads.specs.View.{cols_of}
 use Rattle.inplace.proofs.CallLaws.{begins_so}
 use Rattle.inplace.proofs.begin_run.Goals as goal
 
 pub returns : goal.returns
 returns c =
-    begins_so c.args.settings c.args.from.now c.args.to.now c.args.text.now c.args.names_from.now c.args.names_to.now (cols c.args.chrom.now c.args.start.now c.args.stop.now) c.start-s.ensures c.streams_in-streams.ensures c.eight_of-begins.ensures c.eight_of-ends.ensures c.begun_number.ensures
+    let a = c.args in
+    begins_so a.settings a.from.now a.to.now a.names.text.now a.names.from.now a.names.to.now (cols_of a.columns) c.start.ensures c.streams_in.ensures c.eight_of.ensures c.eight_of-2.ensures

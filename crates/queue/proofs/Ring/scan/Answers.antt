@@ -10,9 +10,9 @@ loop-k-init c = scanning_start _ _ _ _
 
 pub loop-k-preserved : goal.loop-k-preserved
 loop-k-preserved c = elim c.if-reaches.branch [
-  | then-reaches w ↦ rw (w.answers-is, w.n-is) (scanning_put _ _ _ _ _ _ _ c.loop-k.invariant c.loop-k-test.true _ c.slot-slot.ensures (sym c.reaches.ensures ∙ w.if-reaches.true) (omega (arith, c.requires)))
-  | else-reaches w ↦ rw (w.answers-is, w.n-is) (scanning_pass _ _ _ _ _ _ _ c.loop-k.invariant c.loop-k-test.true _ c.slot-slot.ensures (sym c.reaches.ensures ∙ w.if-reaches.false))
+  | then-reaches w ↦ rw (w.answers-is, w.n-is) (scanning_put _ _ _ _ _ _ _ c.loop-k.invariant _ c.slot-slot.ensures (sym c.reaches.ensures ∙ w.if-reaches.true) (omega (arith, c.requires)))
+  | else-reaches w ↦ rw (w.answers-is, w.n-is) (scanning_pass _ _ _ _ _ _ _ c.loop-k.invariant _ c.slot-slot.ensures (sym c.reaches.ensures ∙ w.if-reaches.false))
 ]
 
 pub returns : goal.returns
-returns c = scanning_end c.args.self _ c.args.b _ _ _ _ c.loop-k.invariant c.loop-k-test.false c.requires.cleared
+returns c = scanning_end c.args.self _ c.args.b _ _ _ _ c.loop-k.invariant (omega arith) c.requires.cleared
