@@ -19,7 +19,7 @@ use Rattle.std.specs.Prelude.{Result}
 use Rattle.lines.specs.declared.Cut.{Cut}
 use Rattle.lines.specs.Laid.{Lays}
 use Rattle.runs.specs.declared.Run.{Run}
-use Rattle.runs.specs.Start.{start_of}
+use Rattle.runs.specs.Start.{start_of, kept_of}
 use Rattle.inputs.specs.Texts.{Texts, Fault, room, names_of, bases_of, job_of}
 use Rattle.inputs.specs.Parted.{texts_of}
 use Rattle.inputs.specs.Read.{base_in}
@@ -40,10 +40,10 @@ module _ (bytes ends : List ℕ) {from to len : List ℕ} {b s : Cols} {r : Read
   abbrev t : Texts
   t = texts_of bytes ends
 
-  run_begins : Begins t r.names len s (start_of (plan_of r list from to s)).run
+  run_begins : Begins t r.names len s (kept_of (start_of (plan_of r list from to s)))
   run_begins = begins (list_is bytes ends f) f
 
-  module _ {run : Run} (is : run ≡ (start_of (plan_of r list from to s)).run) where
+  module _ {run : Run} (is : run ≡ kept_of (start_of (plan_of r list from to s))) where
     pub run_comes : (c : Cells) → Slots c → Comes s (take r.names len) run c
     run_comes c z = subst (λ (u : Run). Comes s (take r.names len) u c) (sym is) (run_begins.comes c z)
 
@@ -65,8 +65,8 @@ module _ (bytes ends : List ℕ) {from to len : List ℕ} {b s : Cols} {r : Read
 
 -- the same, of the tables that were made of the memory
 module _ (bytes ends : List ℕ) {m : Memory} {r : Read} (f : FineIn (texts_of bytes ends) r m) {u : Tables} (h : Stands bytes ends r m u) {run : Run}
-    (is : run ≡ (start_of (plan_of r u.names.text.now u.names.from.now u.names.to.now (cols_of u.rows))).run) where
-  run_is : run ≡ (start_of (plan_of r (list bytes ends f) m.from m.to (rows_in m))).run
+    (is : run ≡ kept_of (start_of (plan_of r u.names.text.now u.names.from.now u.names.to.now (cols_of u.rows)))) where
+  run_is : run ≡ kept_of (start_of (plan_of r (list bytes ends f) m.from m.to (rows_in m)))
   run_is = rw (h.text, h.from, h.to, h.rows, take-take r.names r.names m.from (omega arith), take-take r.names r.names m.to (omega arith)) at is
 
   pub tables_come : (c : Cells) → Slots c → Comes (cols_of u.rows) u.lengths.now run c

@@ -17,9 +17,9 @@ use Rattle.lines.specs.Laid.{joined, fitting, cut, laid_of, Lays}
 use Rattle.lines.proofs.LaidLaws.{lays_only}
 use Rattle.heads.specs.View.{Cols}
 use Rattle.inputs.specs.Texts.{Texts, Fault, fault, fault_of, names_of, bases_of, job_of}
-use Rattle.inputs.specs.Read.{fault_by, Reads}
+use Rattle.inputs.specs.Read.{told, Reads}
 use Rattle.inputs.specs.declared.Read.{Read}
-use Rattle.inputs.specs.declared.Verdict.TheVariants as verdict
+use Rattle.inputs.specs.declared.InputError.{InputError}
 use Rattle.rules.specs.Job.{answers}
 use Rattle.listing.specs.Listing.{run_lines, unless_fault, listing}
 use Rattle.listing.specs.Run.{told_of}
@@ -28,12 +28,12 @@ use Rattle.listing.specs.declared.Listing.{Listing}
 
 -- ---- the verdict
 
-module _ {t : Texts} {r : Read} {from to len : List ℕ} {b s : Cols} (h : Reads t r from to len b s) where
+module _ {t : Texts} {e : InputError} {from to len : List ℕ} {b s : Cols} (h : Reads t (Err e) from to len b s) where
   -- "A fault before the run gives one line"
-  pub reads_fault : {number text ahead : ℕ} {put : Maybe ℕ} {x : Result ℕ Cut} {old new : List ℕ} → r.verdict ≡ verdict.Fault number text ahead → Puts old 0 (line_f number text ahead) put new → x ≡ ok_or put (record { 0 = 0 }) → Lays old 0 (listing t) x new
+  pub reads_fault : {number text ahead : ℕ} {put : Maybe ℕ} {x : Result ℕ Cut} {old new : List ℕ} → number ≡ (told e).number → text ≡ (told e).text → ahead ≡ (told e).ahead → Puts old 0 (line_f number text ahead) put new → x ≡ ok_or put (record { 0 = 0 }) → Lays old 0 (listing t) x new
   unfolding listing
-  reads_fault {number} {text} {ahead} {put} {x} {old} {new} e p q =
-      let wrong : fault_of t ≡ some (fault number text ahead) = sym h.fault ∙ ap fault_by e in
+  reads_fault {number} {text} {ahead} {put} {x} {old} {new} n k m p q =
+      let wrong : fault_of t ≡ some (fault number text ahead) = sym h.fault ∙ rw (n, k, m) in
       let lines : line_f number text ahead ∷ [] ≡ listing t = sym (ap (λ (o : Option Fault). unless_fault o (run_lines (names_of t) 0 (bases_of t) (answers (job_of t) (bases_of t)))) wrong) in
       subst (λ (ls : List (List ℕ)). Lays old 0 ls x new) lines (subst (λ (y : Result ℕ Cut). Lays old 0 (line_f number text ahead ∷ []) y new) (sym q) (lays_only put (omega arith) p))
 

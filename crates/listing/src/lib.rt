@@ -13,7 +13,7 @@ ghost use Rattle.listing.specs.Listing.{listing};
 ghost use Rattle.listing.specs.Run.{lines_from, step_of, told_of};
 ghost use Rattle.listing.specs.Call.{Writes};
 
-use inputs::{Read, Verdict};
+use inputs::Read;
 use lines::Cut;
 use rules::Answer;
 use runs::Run;
@@ -91,12 +91,9 @@ fn list_texts(bytes: &[u8], ends: &[usize], out: &mut [u8]) -> Result<usize, Cut
     ensures { Lays out.old 0 (listing (texts_of bytes.now ends.now)) result out.new }
 {
     let mut memory = Memory::new();
-    let read = memory.read(bytes, ends);
-    match read.verdict {
-        Verdict::Fine => list_run(read, bytes, ends, &memory, out),
-        Verdict::Fault(number, text, ahead) => {
-            lines::put_fault(out, 0, number, text, ahead).ok_or(Cut(0))
-        }
+    match memory.read(bytes, ends) {
+        Ok(read) => list_run(read, bytes, ends, &memory, out),
+        Err(e) => lines::put_fault(out, 0, e.number(), e.text(), e.ahead()).ok_or(Cut(0)),
     }
 }
 

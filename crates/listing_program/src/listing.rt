@@ -7,7 +7,7 @@ ghost use Rattle.walk.specs.Memory.{FineIn};
 
 use crate::failure::fail;
 use crate::say;
-use inputs::{Read, Verdict};
+use inputs::Read;
 use rules::Answer;
 use runs::Run;
 use std::io::Print;
@@ -74,9 +74,8 @@ fn list_read(
 // The listing of texts, which stand one behind the other and end where it is told.
 pub fn list_texts(stdout: &impl Print, stderr: &impl Print, bytes: &[u8], ends: &[usize]) {
     let mut memory = Memory::new();
-    let read = memory.read(bytes, ends);
-    match read.verdict {
-        Verdict::Fine => list_read(stdout, stderr, read, bytes, ends, &memory),
-        Verdict::Fault(number, text, ahead) => list_fault(stdout, stderr, number, text, ahead),
+    match memory.read(bytes, ends) {
+        Ok(read) => list_read(stdout, stderr, read, bytes, ends, &memory),
+        Err(e) => list_fault(stdout, stderr, e.number(), e.text(), e.ahead()),
     }
 }

@@ -26,10 +26,10 @@ use Rattle.fields.specs.Names.{names}
 use Rattle.fields.proofs.Naming.{names_length}
 use Rattle.heads.specs.View.{Cols}
 use Rattle.queue.specs.Ring.{Cells}
-use Rattle.runs.specs.declared.start.Begins.TheVariants.{Begun}
+use Rattle.std.specs.Prelude.{Ok}
 use Rattle.runs.specs.View.{run_of}
 use Rattle.pulls.specs.Pulls.{lent}
-use Rattle.runs.specs.Start.{Plan, row_in, streams_of, counted, evened, in_rows, lendable, refused_of, begun_by, start_of}
+use Rattle.runs.specs.Start.{Plan, row_in, streams_of, counted, evened, in_rows, lendable, refused_of, fresh_run, started, start_of, kept_of}
 use Rattle.runs.proofs.Starting.{ranged_says}
 use Rattle.runs.proofs.StartLaws.{begun_fresh, begun_right}
 use Rattle.demands.proofs.KeptLaws.{each_all}
@@ -124,10 +124,10 @@ module _ {t : Texts} {r : Read} {list from to len : List ℕ} {b s : Cols} (is-l
       ap (λ (n : ℕ). record { streams = n; chroms = r.names; room = room }) f.columns.streams
       ∙ ap (λ (n : ℕ). record { streams = length t.streams; chroms = n; room = room }) (sym (names_length (length list) list (take r.names from) (take r.names to) names_is.inside ∙ from_long))
 
-  begun : (start_of p).begins ≡ Begun
+  begun : start_of p ≡ Ok (fresh_run p.settings p.from p.to)
   unfolding refused_of
   begun =
-      ap begun_by (ap (λ (u : Bool). cond u (refuses_start p.settings listed) (some Sizes)) lends
+      ap (λ o. started o p) (ap (λ (u : Bool). cond u (refuses_start p.settings listed) (some Sizes)) lends
       ∙ ap (λ (x : Settings). refuses_start x listed) settings_is
       ∙ ap (λ (ns : List (List ℕ)). refuses_start (settings_in (length t.streams) ns) ns) (names_is.named ∙ ap names_in (sym is-list))
       ∙ fine_names t f.fine)
@@ -136,29 +136,31 @@ module _ {t : Texts} {r : Read} {list from to len : List ℕ} {b s : Cols} (is-l
   abbrev streams : List (List Row)
   streams = streams_of s r.streams places r.to
 
-  fresh_is : (c : Cells) → run_of s c (start_of p).run ≡ fresh streams
-  fresh_is c = begun_fresh p begun c
+  fresh_is : (c : Cells) → run_of s c (kept_of (start_of p)) ≡ fresh streams
+  fresh_is c = rw (ap kept_of begun) (begun_fresh p begun c)
 
-  from_is : (start_of p).run.from ≡ places
+  from_is : (kept_of (start_of p)).from ≡ places
   from_is = rw begun
 
-  room_is : (start_of p).run.settings.room ≡ room
+  room_is : (kept_of (start_of p)).settings.room ≡ room
   room_is = rw begun
 
   lengths_long : length (take r.names len) ≡ r.names
   lengths_long = length-take-le r.names len (omega (arith, names_is.few, f.rooms.lengths))
 
-  comes : (c : Cells) → Slots c → Comes s (take r.names len) (start_of p).run c
+  comes : (c : Cells) → Slots c → Comes s (take r.names len) (kept_of (start_of p)) c
   comes c z = record {
-    blameless = λ answers enough. begun_right p begun (take r.names len) (lent c answers) (record { listed = lengths_long; slots = z; answer = omega (arith, enough, room_is) });
+    blameless = λ answers enough.
+        let asked : room ≤ length answers = omega (arith, enough, room_is) in
+        rw (ap kept_of begun) (begun_right p begun (take r.names len) (lent c answers) (record { listed = lengths_long; slots = z; answer = asked }));
     whole = rw begun (λ z. record { chrom = refl; start = refl; stop = refl; row = refl; ended = refl; next = refl });
     room = room_is;
-    left = λ k. subst (λ (l : List ℕ). All (Own s l) (get_or (run_of s c (start_of p).run).left k [])) (sym from_is)
+    left = λ k. subst (λ (l : List ℕ). All (Own s l) (get_or (run_of s c (kept_of (start_of p))).left k [])) (sym from_is)
         (subst (λ (x : rules.Run). All (Own s places) (get_or x.left k [])) (sym (fresh_is c)) (each_all (Own s places) (all_numbered s places r.to r.streams 0) k));
-    queue = subst (λ (l : List ℕ). All (Own s l) (run_of s c (start_of p).run).queue) (sym from_is) (subst (λ (x : rules.Run). All (Own s places) x.queue) (sym (fresh_is c)) nil);
+    queue = subst (λ (l : List ℕ). All (Own s l) (run_of s c (kept_of (start_of p))).queue) (sym from_is) (subst (λ (x : rules.Run). All (Own s places) x.queue) (sym (fresh_is c)) nil);
   }
 
-  pub begins : Begins t r.names len s (start_of p).run
+  pub begins : Begins t r.names len s (kept_of (start_of p))
   begins = record {
     comes = comes;
     fresh_run = λ c. fresh_is c ∙ ap (λ (n : ℕ). fresh (streams_of s n places r.to)) f.columns.streams ∙ ap fresh f.columns.rows;

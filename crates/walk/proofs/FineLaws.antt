@@ -12,9 +12,9 @@ use Rattle.fields.specs.Names.{within}
 use Rattle.heads.specs.View.{Cols, cols_of}
 use Rattle.inputs.specs.Texts.{Texts, fault, fault_of}
 use Rattle.inputs.specs.Parted.{texts_of, sized_by}
-use Rattle.inputs.specs.Read.{fault_by, Reads}
+use Rattle.inputs.specs.Read.{Reads}
 use Rattle.inputs.specs.declared.Read.{Read}
-use Rattle.inputs.specs.declared.Verdict.TheVariants as verdict
+use Rattle.std.specs.Prelude.{Ok}
 use Rattle.inputs.proofs.Parting.{texts_list, texts_sizes}
 use Rattle.inputs.proofs.Reading.{some_texts, list_within}
 use Rattle.walk.specs.Run.{Bases, Fine}
@@ -23,11 +23,12 @@ use Rattle.walk.specs.declared.Memory.{Memory}
 use Rattle.walk.specs.declared.Tables.{Tables}
 use Rattle.walk.proofs.Beginning.{fine_sizes}
 
--- nothing is wrong where the verdict says so
-pub fine_read : {t : Texts} {r : Read} {from to len : List ℕ} {b s : Cols} → Reads t r from to len b s → r.verdict ≡ verdict.Fine → Fine t r from to len b s
-fine_read {t} h v =
-    let fine : fault_of t ≡ none = sym h.fault ∙ ap fault_by v in
-    record { fine = fine; eight = h.eight; rooms = h.rooms; columns = h.columns (fine_sizes t fine) }
+-- nothing is wrong where the answer says so
+pub fine_read : {t : Texts} {r : Read} {from to len : List ℕ} {b s : Cols} → Reads t (Ok r) from to len b s → Fine t r from to len b s
+fine_read {t} {r} h =
+    let fine : fault_of t ≡ none = sym h.fault in
+    let held = h.columns (fine_sizes t fine) in
+    record { fine = fine; eight = rw (held.is) held.eight; rooms = h.rooms; columns = rw (held.is) held.columns }
 
 module _ {t : Texts} {r : Read} {from to len : List ℕ} {b s : Cols} (f : Fine t r from to len b s) where
   -- the names' columns have as many slots as there are names

@@ -6,7 +6,7 @@ ghost use Rattle.std.specs.Prelude.{◌≡◌, [], ◌+◌, ◌≤◌, ◌<◌, 
 ghost use Rattle.fields.specs.Names.{listed};
 ghost use Rattle.heads.specs.View.{cols_of};
 ghost use Rattle.pulls.specs.Pulls.{lent};
-ghost use Rattle.runs.specs.Start.{start_of};
+ghost use Rattle.runs.specs.Start.{start_of, kept_of};
 ghost use Rattle.replies.specs.List.{Lists};
 ghost use Rattle.inputs.specs.Texts.{rows_most, room};
 ghost use Rattle.inputs.specs.Parted.{texts_of};
@@ -16,7 +16,7 @@ ghost use Rattle.walk.specs.Memory.{IsEmpty, ReadsTo, FineIn, Stands};
 
 use fields::NameList;
 use heads::Columns;
-use inputs::Read;
+use inputs::{InputError, Read};
 use replies::{Entry, Listed};
 use rules::{Base, Chrom, Settings};
 use runs::Run;
@@ -64,7 +64,7 @@ impl Memory {
     }
 
     // Reads all texts, and says what is wrong before the run. Given are the texts one behind the other and where each ends.
-    pub fn read(&mut self, bytes: &[u8], ends: &[usize]) -> Read
+    pub fn read(&mut self, bytes: &[u8], ends: &[usize]) -> Result<Read, InputError>
         ensures { ReadsTo (texts_of bytes.now ends.now) result self.new }
     {
         inputs::read_texts(
@@ -115,29 +115,24 @@ impl Memory {
 // The run of texts that were read, with nothing wrong.
 pub fn begin(read: Read, tables: Tables) -> Run
     requires { (read.names ≤ length tables.names.from.now) × (read.names ≤ length tables.names.to.now) }
-    ensures { result ≡ (start_of (plan_of read tables.entry.names.text.now tables.entry.names.from.now tables.entry.names.to.now (cols_of tables.entry.rows))).run }
+    ensures { result ≡ kept_of (start_of (plan_of read tables.entry.names.text.now tables.entry.names.from.now tables.entry.names.to.now (cols_of tables.entry.rows))) }
 {
     let n = read.names;
-    let names = tables.names;
-    let rows = tables.rows;
+    let names = NameList {
+        text: tables.names.text,
+        from: &tables.names.from[..n],
+        to: &tables.names.to[..n],
+    };
     let places = [0, 1024, 2048, 3072, 4096, 5120, 6144, 7168];
     let fixed = Settings {
         streams: read.streams,
         chroms: n,
         room: 1024,
     };
-    let started = Run::start(
-        fixed,
-        places,
-        read.to,
-        names.text,
-        &names.from[..n],
-        &names.to[..n],
-        rows.chrom,
-        rows.start,
-        rows.stop,
-    );
-    started.run
+    match Run::start(fixed, places, read.to, names, tables.rows) {
+        Ok(run) => run,
+        Err(_) => Run::none(),
+    }
 }
 
 // Base number i is given to the run, and its lines are written.

@@ -4,7 +4,7 @@ use Rattle.listing.proofs.Written.{reads_fault}
 use Rattle.listing.proofs.list_texts.Goals as goal
 
 pub list_run-requires : goal.list_run-requires
-list_run-requires c = fine_read c.read-read.ensures c.in-Fine.is
+list_run-requires c = fine_read c.in-Ok.ensures
 
-pub returns-in-Fault : goal.returns-in-Fault
-returns-in-Fault c = reads_fault c.read-read.ensures c.in-Fault.is c.put_fault.ensures c.ok_or.ensures.value
+pub returns-in-Err : goal.returns-in-Err
+returns-in-Err c = reads_fault c.in-Err.ensures c.number.ensures c.text.ensures c.ahead.ensures c.put_fault.ensures c.ok_or.ensures.value
