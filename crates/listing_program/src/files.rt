@@ -15,7 +15,8 @@ const TOO_LONG: i32 = 36;
 
 const NO_TEXT: i32 = 84;
 
-// Reads an open file to the buffer from a place on, up to the end of either; the place behind what was read.
+// Reads an open file to the buffer from a place on, up to the end of either; the place behind what was read. The memory is of a fixed size: std's
+// own reading to the end takes a heap.
 fn read_open(file: &mut impl Read, bytes: &mut [u8], from: usize) -> io::Result<usize>
     requires { from ≤ length bytes.old }
     ensures { IfOk result (λ end. end ≤ length bytes.old) }

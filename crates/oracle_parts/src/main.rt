@@ -101,10 +101,7 @@ fn replay_records(
         &mut f.pstart,
         &mut f.pstop,
     );
-    match answer {
-        Ok(written) => f.matches_all(written.fragments, reader),
-        Err(_) => None,
-    }
+    f.matches_all(answer.ok()?.fragments, reader)
 }
 
 // Whether the job that stands at a place has the fragments recorded with it. What can't be read ahead of the count is 0.

@@ -157,10 +157,8 @@ fn replay_run(
         from: front(&from, chroms),
         to: front(&to, chroms),
     };
-    match Run::start(fixed, ranges.from, ranges.to, names, rows) {
-        Ok(run) => replay_bases(run, bases, rows, front(&lengths, chroms), reader),
-        Err(_) => None,
-    }
+    let run = Run::start(fixed, ranges.from, ranges.to, names, rows).ok()?;
+    replay_bases(run, bases, rows, front(&lengths, chroms), reader)
 }
 
 // What the job that stands at a place comes to; nothing where it can't be read, or a base differs. The number of chromosomes, or of streams, is 0

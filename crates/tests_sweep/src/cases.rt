@@ -1,8 +1,8 @@
 // What a case has laid and lent, and what each command does to it.
 use crate::{Command, QUEUES, SLOTS, given, tamper};
 use heads::Columns;
-use rules::{Base, Settings};
-use runs::{Mark, Run};
+use rules::Base;
+use runs::Run;
 use std::io;
 use tests_shared::front;
 
@@ -75,34 +75,12 @@ impl Rows {
 }
 
 impl Side {
-    // No run, and nothing lent.
+    // The run of no streams, and nothing lent.
     fn new() -> Side {
-        let settings = Settings {
-            streams: 0,
-            chroms: 0,
-            room: 0,
-        };
-        let run = Run {
-            chrom: [0; 8],
-            start: [0; 8],
-            stop: [0; 8],
-            row: [0; 8],
-            ended: [1; 8],
-            next: [0; 8],
-            from: [0; 8],
-            to: [0; 8],
-            settings,
-            head: 0,
-            len: 0,
-            place: 0,
-            mark: Mark {
-                kind: 0,
-                first: 0,
-                second: 0,
-                third: 0,
-            },
-        };
-        Side { run, lens: [0; 8] }
+        Side {
+            run: Run::none(),
+            lens: [0; 8],
+        }
     }
 }
 

@@ -2,7 +2,7 @@
 use crate::SLOTS;
 use crate::cases::{Bench, Memory, Rows};
 use fields::NameList;
-use rules::{Answer, Base, End, Offer, Settings, Unbegun};
+use rules::{Answer, Base, End, Offer, Settings};
 use runs::Run;
 use std::io;
 use tests_shared::{at, front, name_ends, name_starts, name_text, part_mut};
@@ -97,15 +97,7 @@ pub fn give(rt: &impl Print, bench: &Bench, b: Base, memory: &mut Memory) -> io:
     Ok(given.run)
 }
 
-// Whether a run begins.
-fn show_start(rt: &impl Print, started: Result<Run, Unbegun>) -> io::Result<()> {
-    match started {
-        Ok(_) => print!(rt; ": begun"),
-        Err(x) => print!(rt; ": refused {}", x.number()),
-    }
-}
-
-// A run begins, with a room, and with as much of each slice as is lent.
+// A run begins, with a room, and with as much of each slice as is lent; where none does, the run of no streams.
 pub fn begin(rt: &impl Print, bench: &Bench, room: usize, rows: &Rows) -> io::Result<Run> {
     let plan = bench.plan;
     let lens = bench.here.lens;
@@ -121,13 +113,19 @@ pub fn begin(rt: &impl Print, bench: &Bench, room: usize, rows: &Rows) -> io::Re
         chroms: plan.chroms,
         room,
     };
-    let rows = rows.lent(lens);
     let names = NameList {
         text: &text,
         from: front(&from, lens[6]),
         to: front(&to, lens[7]),
     };
-    let started = Run::start(fixed, plan.from, plan.to, names, rows);
-    show_start(rt, started)?;
-    Ok(started.unwrap_or(Run::none()))
+    match Run::start(fixed, plan.from, plan.to, names, rows.lent(lens)) {
+        Ok(run) => {
+            print!(rt; ": begun")?;
+            Ok(run)
+        }
+        Err(x) => {
+            print!(rt; ": refused {}", x.number())?;
+            Ok(Run::none())
+        }
+    }
 }
