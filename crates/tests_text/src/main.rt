@@ -2,13 +2,10 @@
 // A slot that was not written shows as 7. The samples stand in this folder's `stdin`, each up to a byte 30.
 #![tactic(auto)]
 
-ghost use Rattle.std.specs.Prelude.{◌≤◌, length, IfOk};
-
 use fields::{NameList, ReadError};
 use rules::Unbegun;
 use std::fmt::Display;
 use std::io;
-use std::io::Read;
 
 // How a reading ended: its refusal number or 0, and the rows ahead.
 fn ended(rt: &impl Print, r: Result<usize, ReadError>) -> io::Result<()> {
@@ -216,25 +213,9 @@ fn other_lists(rt: &impl Print) -> io::Result<()> {
     listed(rt, b"one\t1\t2\n", beyond)
 }
 
-// Reads until the buffer is full or the input ends; how many bytes were put at its start.
-fn read_full(input: &mut impl Read, buf: &mut [u8]) -> io::Result<usize>
-    ensures { IfOk result (λ n. n ≤ length buf.new) }
-{
-    let mut done: usize = 0;
-    while done < buf.len() {
-        let n = input.read(&mut buf[done..])?;
-        if n == 0 {
-            return Ok(done);
-        }
-        done += n;
-    }
-    Ok(done)
-}
-
 fn main(rt: HostRuntime) -> io::Result<()> {
-    let mut buffer = [0u8; 65536];
-    let n = read_full(&mut rt.stdin(), &mut buffer)?;
-    samples(&rt, &buffer[..n])?;
+    let text = tests_shared::read_text(rt.alloc(), rt.stdin())?;
+    samples(&rt, &text)?;
     uneven(&rt)?;
     two_names(&rt)?;
     sizes(&rt)?;
