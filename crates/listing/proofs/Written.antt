@@ -18,7 +18,7 @@ use Rattle.lines.proofs.LaidLaws.{lays_only}
 use Rattle.heads.specs.View.{Cols}
 use Rattle.inputs.specs.Texts.{Texts, Fault, fault, fault_of, names_of, bases_of, job_of}
 use Rattle.inputs.specs.Read.{told, Reads}
-use Rattle.inputs.specs.declared.Read.{Read}
+use Rattle.std.specs.Prelude.{Err}
 use Rattle.inputs.specs.declared.InputError.{InputError}
 use Rattle.rules.specs.Job.{answers}
 use Rattle.listing.specs.Listing.{run_lines, unless_fault, listing}
