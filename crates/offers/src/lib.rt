@@ -57,7 +57,13 @@ fn offer_after(b: Base, first: Option<u64>, least: Option<Best>) -> Offer
 
 // The answer to a base for which no head is to be taken any more: its records are written, and a place is offered. q holds what waits, all of it
 // live for the base, and h is the least head.
-pub fn report(q: Ring, h: Option<Best>, b: Base, queue: &[[u64; 4]], answers: &mut [[u64; 2]]) -> Answer
+pub fn report(
+    q: Ring,
+    h: Option<Best>,
+    b: Base,
+    queue: &[[u64; 4]],
+    answers: &mut [[u64; 2]],
+) -> Answer
     requires { Scannable q queue.now b answers.old }
     ensures { Reports q queue.now h b answers.old result answers.new }
 {

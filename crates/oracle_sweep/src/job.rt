@@ -6,7 +6,8 @@ use rules::{Answer, Base, Chrom, Settings};
 use runs::Run;
 use tests_shared::{Reader, at, front, name_ends, name_starts, name_text};
 
-// What a job comes to: how many bases and records it has, and whether all are those of the list.
+// What a job comes to: how many bases and records it has, and whether all are those of the list. Its counts are summed where they are not, too, so
+// it is no Option.
 #[derive(Clone, Copy, Default)]
 pub struct Score {
     pub bases: u64,

@@ -11,7 +11,8 @@ use job::Score;
 use std::{fs, io};
 use tests_shared::Reader;
 
-// How the replay stands: jobs, bases, records, jobs that differ, and the line of the first that does.
+// How the replay stands: jobs, bases, records, jobs that differ, and the line of the first that does. (oracle_parts' own has no bases and records:
+// one type for both would count what one of them has none of.)
 #[derive(Clone, Copy, Default)]
 struct Tally {
     jobs: u64,
