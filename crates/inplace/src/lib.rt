@@ -29,7 +29,7 @@ pub struct Swept {
     pub last: Stopped,
 }
 
-// The first eight numbers, with 0 for those that are not there.
+// The first eight numbers, with 0 for those that are not there. They are written out: of `array::from_fn` the proof did not close.
 fn eight_of(s: &[usize]) -> [usize; 8]
     ensures { result ≡ eight_of s.now }
 {

@@ -221,7 +221,8 @@ fn read_streams(
 }
 
 // Reads all texts to their columns, and says what is wrong before the run. Given are the texts one behind the other and where each
-// ends; lent are columns for the names, for the bases and, in eight parts, for the streams' rows.
+// ends; lent are columns for the names, for the bases and, in eight parts, for the streams' rows. Each column is lent by itself: `Reads`
+// names it.
 pub fn read_texts(
     bytes: &[u8],
     ends: &[usize],
