@@ -1,4 +1,6 @@
 // What a line says.
+ghost use Rattle.std.specs.Prelude.{◌≤◌};
+
 use crate::SLOTS;
 use rules::{Base, Chrom};
 use runs::Mark;
@@ -26,7 +28,9 @@ pub enum Command {
 }
 
 // Less than a slice can hold, so that one more fits.
-fn small(x: u64) -> usize {
+fn small(x: u64) -> usize
+    ensures { result ≤ 65537 }
+{
     x.min(SLOTS as u64 - 1) as usize
 }
 
