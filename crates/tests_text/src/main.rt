@@ -221,6 +221,7 @@ fn read_full(input: &mut impl Read, buf: &mut [u8]) -> io::Result<usize>
     ensures { IfOk result (λ n. n ≤ length buf.new) }
 {
     let mut done: usize = 0;
+    // A read tells how far it came: a `for` has no such step.
     while done < buf.len() {
         let n = input.read(&mut buf[done..])?;
         if n == 0 {
