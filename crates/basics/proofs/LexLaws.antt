@@ -1,7 +1,7 @@
 -- The test `lex` and the fact `Lex`.
 use mathlib.Core.Path.{◌≡◌, refl, sym}
 use mathlib.Core.Bool.{Bool, true, false, not, ◌&&◌, ◌||◌}
-use Prim.Native.Nat.{ℕ, ◌≤◌, ◌<◌}
+use Prim.Native.Nat.{ℕ, ◌<◌}
 use native.Mathlib.Omega.{arith}
 use lib.Dec.{eqb, ltb}
 use borrow.Author.Tests.{ltb-true, ltb-false, eqb-true, eqb-false, le-ltb, eq-eqb, ne_eqb}
@@ -66,12 +66,6 @@ module _ (a b : ℕ) (t : Bool) where
 
   pub lex_same : a ≡ b → lex a b t ≡ t
   lex_same q = rw (le-ltb a b (omega arith), eq-eqb a b q)
-
-  pub lex_below : a < b → lex a b t ≡ true
-  lex_below h = lex_pass (record { below = omega arith; tie = λ q. absurd (omega arith) })
-
-  pub lex_tie : b ≤ a → a ≤ b → lex a b t ≡ t
-  lex_tie h k = lex_same (omega arith)
 
   pub lex_above : b < a → lex a b t ≡ false
   lex_above h = lex_fail (record { below = omega arith; tie = λ q. absurd (omega arith) })

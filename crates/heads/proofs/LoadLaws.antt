@@ -14,11 +14,12 @@ use Rattle.rules.specs.declared.End.{End}
 use Rattle.rules.specs.Rows.{fault}
 use Rattle.heads.specs.declared.Next.{Next}
 use Rattle.std.specs.Prelude.{⊤, Result, Ok, Err}
+use Rattle.std.specs.Prelude as std
 use Rattle.rules.specs.Streams.{else, check}
 use Rattle.rules.specs.Call.{loading}
 use Rattle.heads.specs.View.{Cols, Heads, row_at, behind_at, rest_at, rests_of, fresh_of}
-use Rattle.heads.specs.Move.{next_record, check_of, ends_at, goes_at, Placed, Shaped}
-use Rattle.heads.specs.Load.{first_of, load_one, load_to, wrong_first, BeginsAs, LoadsAs}
+use Rattle.heads.specs.Move.{next_record, check_of, ends_at, goes_at, turn_at, Placed, Shaped}
+use Rattle.heads.specs.Load.{first_of, load_one, load_to, wrong_first, BeginsAs, LoadsAs, RangesStay}
 use Rattle.heads.proofs.CheckLaws.{check_fine, check_wrong}
 
 module _ (s : Cols) (n : ℕ) (h : Heads) (k : ℕ) where
@@ -36,11 +37,6 @@ module _ (s : Cols) (n : ℕ) (h : Heads) (k : ℕ) where
     unfolding load_one
     begun_by_lem g f = record { check = rw (lt-leb (get_or h.to k 0) (get_or h.next k 0) e) seen; heads = λ z. rw (lt-leb (get_or h.to k 0) (get_or h.next k 0) e) (f (rw (lt-leb (get_or h.to k 0) (get_or h.next k 0) e) at z)) }
 
-    pub begun_wrong : (y : End) → w ≡ Err y → BeginsAs s n h k (Err y) h
-    begun_wrong y q =
-        let z : fault n none (row_at s (get_or h.from k 0) k (get_or h.next k 0)) ≡ some y = check_wrong (fault n none (row_at s (get_or h.from k 0) k (get_or h.next k 0))) y (sym seen ∙ q) in
-        rw (← q) (begun_by_lem h (λ v. let u : ◌≡◌ {A = ℕ} 0 1 = cc in absurd (omega arith)))
-
     pub begun_goes : w ≡ Ok tt → BeginsAs s n h k (Ok tt) (goes_at h k x)
     begun_goes q = rw (← q) (begun_by_lem (goes_at h k x) (λ v. ap (goes_at h k) is))
 
@@ -51,6 +47,14 @@ wrong_check s n h k = go (leb (get_or h.to k 0) (get_or h.next k 0)) refl
     go : (t : Bool) → leb (get_or h.to k 0) (get_or h.next k 0) ≡ t → cond t none (fault n none (row_at s (get_or h.from k 0) k (get_or h.next k 0))) ≡ check n none (behind_at s h k)
     go true e = rw (build_none (row_at s (get_or h.from k 0) k) (get_or h.to k 0) (get_or h.next k 0) (leb-true (get_or h.to k 0) (get_or h.next k 0) e))
     go false e = rw (build_front (row_at s (get_or h.from k 0) k) (get_or h.to k 0) (get_or h.next k 0) (leb-false (get_or h.to k 0) (get_or h.next k 0) e))
+
+-- a stream that goes on moves no range
+pub turn_stays : (h : Heads) (k : ℕ) (y : std.Option Next) → RangesStay h (turn_at h k y)
+turn_stays h k std.None = record { streams = refl; from = refl; to = refl }
+turn_stays h k (std.Some x) = record { streams = refl; from = refl; to = refl }
+
+pub stays_on : {h g f : Heads} → RangesStay h g → RangesStay g f → RangesStay h f
+stays_on a b = record { streams = b.streams ∙ a.streams; from = b.from ∙ a.from; to = b.to ∙ a.to }
 
 -- what loading the first head of stream k does
 pub record Opened (s : Cols) (h g : Heads) (k : ℕ) : Type 0 where
@@ -161,6 +165,10 @@ module _ (s : Cols) (h : Heads) (in8 : Shaped h) (p : Placed s h.streams h.next 
 
     pub load_placed : (g : Heads) (k : ℕ) → Loading s n h g k → Upto s h g k
     load_placed g k l = rw l.is (upto k l.within)
+
+    -- the streams' ranges are those of the start
+    pub ranges_stay : (g g' : Heads) (k : ℕ) → Loading s n h g k → RangesStay g g' → RangesStay h g'
+    ranges_stay g g' k l r = let u : Upto s h g k = load_placed g k l in stays_on (record { streams = u.streams; from = u.from; to = u.to }) r
 
     -- the next stream's first row
     turn : (g : Heads) (k : ℕ) → Loading s n h g k → k < h.streams → else (wrong_first s n g k) (loading n (build (behind_at s h) (h.streams - (k + 1)) (k + 1))) ≡ loading n (fresh_of s h)

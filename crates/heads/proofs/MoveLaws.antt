@@ -23,10 +23,8 @@ use Rattle.heads.specs.declared.Move.TheVariants as move
 use Rattle.heads.specs.View.{Cols, row_at, rows_from}
 use Rattle.least.specs.Fours.{record_from, unless_ended, left_at, is_ended}
 use Rattle.least.specs.Least.{head_of, best_of, least_in}
-use Rattle.heads.specs.declared.Next.{Next}
-use Rattle.std.specs.Prelude.{⊤, Result, Ok, Err, Some, None}
-use Rattle.heads.specs.Move.{best_record, check_of, taken_of, next_of, takes, move_of, behind_by}
-use Rattle.heads.proofs.CheckLaws.{check_fine, check_wrong}
+use Rattle.std.specs.Prelude.{Result, Ok, Some, None}
+use Rattle.heads.specs.Move.{best_record, taken_of, takes, move_of, behind_by}
 use Rattle.least.proofs.LeastLaws.{own_number, least_pick}
 
 module _ (q : List (List ℕ)) (ended : List ℕ) (behind : ℕ → List Record) (n : ℕ) (few : n ≤ 8) where
@@ -124,13 +122,6 @@ module _ (N : ℕ) (s : Cols) (from to k at : ℕ) (t : Taken) (a : Record) wher
   pub takes_more : at < to → takes t (at + 1) (next N a (rows_from s from to k at)) (rows_from s from to k at)
       ≡ takes t (at + 1) (fault N (Option.some a.it) (row_at s from k at)) (row_at s from k at ∷ [])
   takes_more h = rw (build_front (row_at s from k) to at h) (takes_first t (at + 1) (fault N (Option.some a.it) (row_at s from k at)) (row_at s from k at) (build (row_at s from k) (to - (at + 1)) (at + 1)))
-
--- the row that was read, and what was found wrong with it
-pub followed_wrong : (t : Taken) (place : ℕ) (o : Option End) (x : Record) {w : Result ⊤ End} {e : End} → w ≡ check_of o → w ≡ Err e → Err e ≡ takes t place o (x ∷ [])
-followed_wrong t place o x {e} p q = rw (check_wrong o e (sym p ∙ q))
-
-pub followed_fine : (t : Taken) (place : ℕ) (o : Option End) (x : Record) {w : Result ⊤ End} {y : Next} → w ≡ check_of o → w ≡ Ok tt → y ≡ next_of x place → Ok (move.Takes t (Some y)) ≡ takes t place o (x ∷ [])
-followed_fine t place o x p q r = rw (check_fine o (sym p ∙ q), r)
 
 -- the turn of a head that is taken, from the rows behind the heads
 module _ (q : List (List ℕ)) (ended : List ℕ) (s : Cols) (nexts from to : List ℕ) (n : ℕ) (few : n ≤ 8) (N : ℕ) (b : Base) (h : Best)

@@ -24,7 +24,7 @@ use Rattle.heads.specs.declared.Move.TheVariants as move
 use Rattle.heads.specs.View.{Cols, rests_of}
 use Rattle.least.specs.Least.{head_of, best_of}
 use Rattle.heads.specs.Move.{move_of, takes, taken_of, Placed, Shaped, turn_at, moved, taken_record}
-use Rattle.heads.proofs.RestLaws.{Shorter, shorter, InPlace, in_place, moved_placed, moved_shaped, move_here, taken_same, stands, stayed}
+use Rattle.heads.proofs.RestLaws.{Shorter, shorter, InPlace, in_place, moved_placed, moved_shaped, move_here, taken_same, stayed}
 
 -- the heads are placed, and each array has its eight places
 pub record Turning (s : Cols) (h : Heads) : Type 0 where
@@ -62,10 +62,6 @@ module _ (s : Cols) (h : Heads) (w : Turning s h) (N : ℕ) (b : Base) where
           case true (Option.some e) k = tt
           case true Option.none [] = λ e. subst (λ (r : Record). live b r ≡ true) (sym (taken_same b a e)) e
           case true Option.none (x ∷ l) = λ e. subst (λ (r : Record). live b r ≡ true) (sym (taken_same b a e)) e
-
-  -- the least head is one of a stream
-  pub least_below : (a : Record) (rest : List Record) (ts : List (List Record)) → pick ahead (rests_of s h) ≡ one a rest ts → a.stream.0 < 8
-  least_below a rest ts z = omega (arith, w.placed.few, (stands s h w.shaped w.placed.few N b a rest ts z).place)
 
   module _ (m : Result Move End) (here : m ≡ turn_here) where
     turned : Turning s (moved h m)

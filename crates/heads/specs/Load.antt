@@ -25,6 +25,12 @@ load_to s h (suc k) = load_one s (load_to s h k) k
 abbrev pub wrong_first : Cols → ℕ → Heads → ℕ → Option End
 wrong_first s n h k = cond (leb (get_or h.to k 0) (get_or h.next k 0)) none (fault n none (row_at s (get_or h.from k 0) k (get_or h.next k 0)))
 
+-- how many streams there are, and where their rows begin and end, stays as it is
+pub record RangesStay (h h' : Heads) : Type 0 where
+  pub streams : h'.streams ≡ h.streams
+  pub from : h'.from ≡ h.from
+  pub to : h'.to ≡ h.to
+
 -- the heads h with the first head of stream k read and checked: what is wrong, and the heads after it where nothing is
 pub record BeginsAs (s : Cols) (n : ℕ) (h : Heads) (k : ℕ) (w : Result ⊤ End) (h' : Heads) : Type 0 where
   pub check : w ≡ check_of (wrong_first s n h k)

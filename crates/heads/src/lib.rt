@@ -8,13 +8,14 @@ ghost use Rattle.rules.specs.Rows.{good, follows, fault};
 ghost use Rattle.rules.specs.Overlap.{taken, live};
 ghost use Rattle.basics.specs.Lists.{Says};
 ghost use Rattle.heads.specs.View.{cols_of, row_at, heads_in};
-ghost use Rattle.heads.specs.Load.{BeginsAs, Loadable, LoadsAs};
+ghost use Rattle.heads.specs.Load.{BeginsAs, Loadable, LoadsAs, RangesStay};
 ghost use Rattle.heads.specs.Move.{best_record, next_row, next_record, check_of, takes, turn_of, turn_at, PlacedIn, Placed, next_of};
 
 use least::Best;
 use rules::{Base, Chrom, End, Settings, Stream};
 
-// Columns of numbers, lent: all streams' rows, one after the other; or bases.
+// Columns of numbers, lent: all streams' rows, one after the other; or bases. Three columns, as a host lends them in C's layout; their lengths may
+// differ, since 1 asks whether they do, so no fact stands in the type.
 #[derive(Clone, Copy)]
 pub struct Columns<'a> {
     pub chrom: &'a [u64],
@@ -22,8 +23,8 @@ pub struct Columns<'a> {
     pub stop: &'a [u64],
 }
 
-// A head that is taken: its stream, whether it is live for the base, its row, start and stop. Not an `Option` of what is to be queued: the stream goes on
-// either way, and `Takes` of the laws is over all five.
+// A head that is taken: its stream, whether it is live for the base, its row, start and stop. Not an `Option` of what is to be queued: `taken_of` of
+// specs/Move, over which `decide`'s clause stands, gives all five.
 #[derive(Clone, Copy)]
 pub struct Taken {
     pub stream: Stream,
@@ -53,7 +54,7 @@ pub enum Move {
 }
 
 // The heads of a run: of each stream its head as four numbers (chromosome, start, stop, row), its mark (0: it goes on), the place of the row behind
-// its head in the lent columns, and where its rows begin and end there.
+// its head in the lent columns, and where its rows begin and end there. Arrays of numbers: they are a run's own, copied as they lie (C's layout).
 #[derive(Clone, Copy)]
 pub struct Heads {
     pub fours: [[u64; 4]; 8],
@@ -92,21 +93,14 @@ fn is_good(n: u64, x: Next) -> bool
     x.chrom.0 < n && x.start <= x.stop
 }
 
-// Whether a row is in order behind a head, by chromosome and start; else 8. Not by comparing tuples: that costs five instructions a record more, and
-// one stream alone then misses the bar of `docs/PERFORMANCE.md`.
+// Whether a row is in order behind a head, by chromosome and start; else 8.
 fn is_ordered(h: Best, x: Next) -> bool
     ensures { result ≡ follows (best_record h).it (next_row x) }
 {
-    if h.chrom < x.chrom {
-        return true;
-    }
-    if x.chrom < h.chrom {
-        return false;
-    }
-    h.start <= x.start
+    (h.chrom, h.start) <= (x.chrom, x.start)
 }
 
-// 7 and 8, out of line: a run meets one of them once at most.
+// 7 and 8, each out of line, for speed (docs/DECISIONS.md, "Heads"): a run meets one of them once at most.
 #[cold]
 #[inline(never)]
 fn faulty(stream: Stream, row: u64) -> End
@@ -172,7 +166,8 @@ fn follow(t: Taken, h: Best, at: usize, first: usize, n: u64, s: Columns) -> Res
     Ok(Move::Takes(t, Some(x)))
 }
 
-// Whether the streams' rows are among the lent ones, of the three columns' lengths.
+// Whether the streams' rows are among the lent ones, of the three columns' lengths. Numbers and arrays, not `Heads`: `PlacedIn`, which this promises,
+// speaks of a run's own arrays and of lengths alone.
 pub fn is_placed(
     streams: usize,
     next: &[usize; 8],
@@ -184,20 +179,11 @@ pub fn is_placed(
 ) -> bool
     ensures { Says result (PlacedIn chroms starts stops streams next.now from.now to.now) }
 {
-    if Settings::STREAMS < streams {
-        return false;
-    }
-    if starts != chroms {
-        return false;
-    }
-    if stops != chroms {
+    if Settings::STREAMS < streams || starts != chroms || stops != chroms {
         return false;
     }
     for k in 0..streams {
-        if next[k] < from[k] {
-            return false;
-        }
-        if chroms < to[k] {
+        if next[k] < from[k] || chroms < to[k] {
             return false;
         }
     }
@@ -251,7 +237,8 @@ impl Heads {
     // The first head of stream k is read, checked and stored, or it is told what is wrong with it.
     fn begin(&mut self, k: usize, n: u64, s: Columns) -> Result<(), End>
         requires { Placed (cols_of s) self.old.streams self.old.next self.old.from self.old.to × (k < self.old.streams) }
-        ensures { BeginsAs (cols_of s.entry) n (heads_in self.old) k result (heads_in self.new) }
+        ensures begun { BeginsAs (cols_of s.entry) n (heads_in self.old) k result (heads_in self.new) }
+        ensures ranges { RangesStay (heads_in self.old) (heads_in self.new) }
     {
         let at = self.next[k];
         let first = self.from[k];
@@ -268,7 +255,8 @@ impl Heads {
     // The first head of each stream is read and checked, stream 0 first, up to the first fault, which is told.
     pub fn load(&mut self, n: u64, s: Columns) -> Result<(), End>
         requires { Loadable (cols_of s) (heads_in self.old) }
-        ensures { LoadsAs (cols_of s.entry) n (heads_in self.old) result (heads_in self.new) }
+        ensures loaded { LoadsAs (cols_of s.entry) n (heads_in self.old) result (heads_in self.new) }
+        ensures ranges { RangesStay (heads_in self.old) (heads_in self.new) }
     {
         for k in 0..self.streams {
             self.begin(k, n, s)?;

@@ -25,16 +25,3 @@ begins_so x from to text names_from names_to s {n} {begins} {ends} {t} et en ef 
     ap (λ (l : List ℕ). start_of (plan (record { streams = streams_in x.streams (length from) (length to); chroms = x.chroms; room = x.room }) l ends text names_from names_to s)) ef ∙
     ap (λ (l : List ℕ). start_of (plan (record { streams = streams_in x.streams (length from) (length to); chroms = x.chroms; room = x.room }) (eight_of from) l text names_from names_to s)) eo
 
--- and its answer told
-module _ (p : Plan) where
-  pub begun_so : {r : Run} → Ok r ≡ start_of p → BeginsInPlace p 0 r
-  begun_so e = record { number = ap begun_number e; run = ap kept_of e }
-
-  pub unbegun_so : {x : Unbegun} {n : ℕ} → Err x ≡ start_of p → n ≡ unbegun_number x → BeginsInPlace p n none_run
-  unbegun_so e q = record { number = q ∙ ap begun_number e; run = ap kept_of e }
-
--- a reading whose answer is told
-pub tallies_so : {A : Type 0} {f g h : A → ℕ} {found : Found A} {a b c a' b' c' : List ℕ} {r : Result ℕ ReadError} {t : Tally}
-    → Fills f g h found a b c r a' b' c' → t ≡ tally_of r → Tallies f g h found a b c t a' b' c'
-tallies_so {r} e et =
-    record { told = et ∙ ap tally_of e.answered; fills = record { answered = refl; first = e.first; second = e.second; third = e.third } }

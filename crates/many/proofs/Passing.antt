@@ -55,10 +55,6 @@ found_fit s lengths r b l m o u l' g =
     let e : length l'.answers ≡ length (map answer_row (rows_of t)) + length (drop (length (rows_of t)) l.answers) = ap length g.settles.answers ∙ length-append (map answer_row (rows_of t)) (drop (length (rows_of t)) l.answers) in
     omega (arith, n, e, length-map (rows_of t) answer_row)
 
--- what was answered, of what is given back by another name
-pub answers_as : {s : Cols} {lengths : List ℕ} {t : Cols} {v : Run} {l : Lent} {ns : List ℕ} {p q : Passed} {l' : Lent} {ns' : List ℕ} → q ≡ p → Answers s lengths t v l ns p l' ns' → Answers s lengths t v l ns q l' ns'
-answers_as {s} {lengths} {t} {v} {l} {ns} {l' = l'} {ns' = ns'} e a = subst (λ (x : Passed). Answers s lengths t v l ns x l' ns') (sym e) a
-
 -- ---- the loop
 
 -- what the loop is given: the streams' columns, the chromosomes' lengths, the bases, the run, what was lent and the counts
@@ -143,10 +139,6 @@ module _ {j : Job} {h : Heads} {q : Ring} {x : Mark} {p : Offer} {u k : ℕ} {m 
 
   abbrev r : Run
   r = run_in h j.v.settings.chroms q x
-
-  -- its count has a place
-  pub count_place : k < length j.ns
-  count_place = omega (arith, n.below, z.even.counts, z.counts)
 
   -- the answer rows from the first free one on, as they are lent
   abbrev part : Lent

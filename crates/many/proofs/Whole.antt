@@ -27,7 +27,6 @@ use Rattle.step.specs.Give.{Gives}
 use Rattle.step.proofs.Giving.{over_so, wrong_so}
 use Rattle.many.specs.declared.Passed.{Passed}
 use Rattle.many.specs.Many.{base_at, none, Unfound, all, other, Even, Answers, none_passed, uneven_by, GivesAll}
-use Rattle.many.specs.Inner.{Passable}
 
 -- ---- a run that goes on
 
@@ -79,11 +78,6 @@ pub record Judged (s : Cols) (lengths : List ℕ) (r : Run) (l : Lent) (q : Ring
 right_told : (s : Cols) (lengths : List ℕ) (r : Run) (l : Lent) (q : Ring) (x y : Bool) → Judged s lengths r l q x → x ≡ y → right_of s lengths r l ≡ y
 right_told s lengths r l q x y e j = ap (λ (p : Ring). right (lens_of s lengths l) r.settings.streams r.settings.chroms p r.ended r.row r.next r.from r.to l.cells) (sym e.ring) ∙ sym e.is ∙ j
 
-goes_uneven : (u : Stage) → Going u → uneven_by u ≡ answer.Refused Sizes
-goes_uneven Fresh z = refl
-goes_uneven (After b) z = refl
-goes_uneven (Over e) z = absurd z
-
 -- ---- the call
 
 module _ {s : Cols} {lengths : List ℕ} {t : Cols} {r : Run} {l : Lent} {ns : List ℕ} where
@@ -115,15 +109,5 @@ module _ {s : Cols} {lengths : List ℕ} {t : Cols} {r : Run} {l : Lent} {ns : L
 
     -- "then 1"
     module _ (going : Going (stage_of r)) (p : Passed) (ps : p ≡ none_passed r (Some (answer.Refused Sizes))) where
-      pub uneven_given : y ≡ false → GivesAll s lengths t r l ns p l ns
-      uneven_given i = subst (λ (x : Passed). GivesAll s lengths t r l ns x l ns) (sym ps) (by_uneven (answer.Refused Sizes) (goes_uneven (stage_of r) going) (uneven_so t ns y is i))
-
       pub wrong_given : y && eqb (length t.chrom) 0 ≡ false → y ≡ true → {q : Ring} {x : Bool} → Judged s lengths r l q x → x ≡ false → GivesAll s lengths t r l ns p l ns
       wrong_given e i {q} {x} u j = subst (λ (x : Passed). GivesAll s lengths t r l ns x l ns) (sym ps) (first_other e i (answer.Refused Sizes) tt (wrong_so s lengths r (base_at t 0) l going (right_told s lengths r l q x false u j)))
-
-    -- the bases are given
-    pub passable : Going (stage_of r) → y && eqb (length t.chrom) 0 ≡ false → y ≡ true → {q : Ring} {x : Bool} → Judged s lengths r l q x → x ≡ true → Passable s lengths t r l ns
-    passable going e i {q} {x} u j = record { right = right_told s lengths r l q x true u j; going = going; even = even_so t ns y is i; some = some t y e i }
-
-    pub passed_given : y ≡ true → (p : Passed) (l' : Lent) (ns' : List ℕ) → Answers s lengths t r l ns p l' ns' → GivesAll s lengths t r l ns p l' ns'
-    passed_given i p l' ns' a = by_even p l' ns' (even_so t ns y is i) a

@@ -17,12 +17,13 @@ use Rattle.std.specs.Prelude as std
 use Rattle.heads.specs.declared.Move.{Move}
 use Rattle.heads.specs.declared.Move.TheVariants as move
 use Rattle.heads.specs.View.{Cols, Heads, rests_of}
-use Rattle.heads.specs.Move.{turn_of, turn_at, Placed, moved}
+use Rattle.heads.specs.Move.{turn_of, turn_at, moved}
+use Rattle.heads.specs.Load.{RangesStay}
+use Rattle.heads.proofs.LoadLaws.{turn_stays, stays_on}
 use Rattle.heads.proofs.RestLaws.{on_move, queued}
 use Rattle.heads.proofs.TurnLaws.{Takes, takes_so}
 use Rattle.queue.specs.declared.Ring.{Ring}
 use Rattle.queue.specs.Ring.{Cells, waiting}
-use Rattle.queue.specs.Deeds.{Scannable}
 use Rattle.offers.specs.Offers.{Reports}
 use Rattle.pulls.specs.Pulls.{Lent, lent, Drawable, KeptAs, FullAs, DrawsAs}
 use Rattle.pulls.proofs.Drawing.{Drawing, starts, on_move_lem, queued_full, steps, ends_so, stays_so}
@@ -34,25 +35,16 @@ module _ (s : Cols) (n : ℕ) (h : Heads) (b : Base) (q : Ring) (l : Lent) where
     pub asked : Drawable s h b q l
     pub drawing : Drawing s n h b q l u w m.cells
     pub answers : m.answers ≡ l.answers
+    pub ranges : RangesStay h u
 
   pub pulling : Drawable s h b q l → Pulling h q l
-  pulling d = record { asked = d; drawing = starts s n h b q l d; answers = refl }
+  pulling d = record { asked = d; drawing = starts s n h b q l d; answers = refl; ranges = record { streams = refl; from = refl; to = refl } }
 
   -- each turn leaves fewer rows
   abbrev pub rows_left : Heads → ℕ
   rows_left u = total (rests_of s u)
 
   module _ (u : Heads) (w : Ring) (m : Lent) (k : Pulling u w m) where
-    pub placed : Placed s u.streams u.next u.from u.to
-    placed = k.drawing.turning.placed
-
-    pub scannable : Scannable w m.cells b m.answers
-    scannable = record {
-      fair = k.drawing.fair;
-      cleared = k.drawing.cleared;
-      answers = rw (k.answers, k.drawing.room) k.asked.answers;
-    }
-
     -- what `decide` answered
     module _ (t : Result Move End) (is : t ≡ turn_of s n b u) where
       pub stay_out : (x : std.Option Best) → t ≡ Ok (move.Stay x) → (a : Answer) (r : List (List ℕ)) → Reports w m.cells x b m.answers a r → DrawsAs s n h b q l (record { ring = w; answer = a }) u (lent m.cells r)
@@ -84,6 +76,9 @@ module _ (s : Cols) (n : ℕ) (h : Heads) (b : Base) (q : Ring) (l : Lent) where
           there : turn_at u a.stream.0 y ≡ g
           there = ap (λ (j : ℕ). turn_at u j y) (sym z) ∙ sym gone
 
+          pub takes_stay : RangesStay h g
+          takes_stay = subst (λ (x : Heads). RangesStay h x) there (stays_on k.ranges (turn_stays u a.stream.0 y))
+
           pub takes_less : total (rests_of s g) < rows_left u
           takes_less = subst (λ (x : Heads). total (rests_of s x) < rows_left u) there (omega (arith, took.less))
 
@@ -92,4 +87,5 @@ module _ (s : Cols) (n : ℕ) (h : Heads) (b : Base) (q : Ring) (l : Lent) where
             asked = k.asked;
             drawing = steps s n h b q l u w m.cells k.drawing t is a (turn_at u a.stream.0 y) took (ap (moved u) e) on w' c' x;
             answers = k.answers;
+            ranges = stays_on k.ranges (turn_stays u a.stream.0 y);
           })

@@ -3,6 +3,7 @@
 
 ghost use Rattle.std.specs.Prelude.{◌≡◌};
 ghost use Rattle.heads.specs.View.{cols_of, heads_in};
+ghost use Rattle.heads.specs.Load.{RangesStay};
 ghost use Rattle.queue.specs.Ring.{Fair};
 ghost use Rattle.pulls.specs.Pulls.{lent, Keeps, Drawable, DrawsAs, Settleable, SettlesAs};
 
@@ -17,7 +18,7 @@ pub struct Answered {
     pub answer: Answer,
 }
 
-// A record that was taken is queued where it is live; nothing where there is no room for it.
+// A record that was taken is queued where it is live; `None` where there is no room for it.
 fn keep(q: Ring, t: Taken, queue: &mut [[u64; 4]]) -> Option<Ring>
     requires { Fair q queue.old }
     ensures { Keeps q queue.old t result queue.new }
@@ -35,7 +36,8 @@ fn keep(q: Ring, t: Taken, queue: &mut [[u64; 4]]) -> Option<Ring>
 }
 
 // Heads are taken while they lie ahead of the base's stop, and what is live is queued; then the base is answered. The heads go on in place; `chroms` is
-// the number of chromosomes. The slots and the answer rows are lent apart from one another: no struct holds what is lent to be written.
+// the number of chromosomes. The slots and the answer rows are lent apart from one another: a struct that held them would have to say of each call whose
+// slices it still holds.
 fn draw(
     heads: &mut Heads,
     chroms: usize,
@@ -46,8 +48,9 @@ fn draw(
     answers: &mut [[u64; 2]],
 ) -> Answered
     requires { Drawable (cols_of s) (heads_in heads.old) b ring (lent queue.old answers.old) }
-    ensures { DrawsAs (cols_of s.entry) chroms (heads_in heads.old) b ring (lent queue.old answers.old) result
+    ensures drawn { DrawsAs (cols_of s.entry) chroms (heads_in heads.old) b ring (lent queue.old answers.old) result
         (heads_in heads.new) (lent queue.new answers.new) }
+    ensures ranges { RangesStay (heads_in heads.old) (heads_in heads.new) }
 {
     let n = chroms as u64;
     let mut q = ring;
@@ -88,8 +91,9 @@ pub fn settle(
     answers: &mut [[u64; 2]],
 ) -> Answered
     requires { Settleable (cols_of s) (heads_in heads.old) ring (lent queue.old answers.old) }
-    ensures { SettlesAs (cols_of s.entry) chroms (heads_in heads.old) b ring (lent queue.old answers.old) result
+    ensures settled { SettlesAs (cols_of s.entry) chroms (heads_in heads.old) b ring (lent queue.old answers.old) result
         (heads_in heads.new) (lent queue.new answers.new) }
+    ensures ranges { RangesStay (heads_in heads.old) (heads_in heads.new) }
 {
     let live = ring.clear(queue, b);
     draw(heads, chroms, live, b, s, queue, answers)

@@ -30,9 +30,6 @@ pub record Skipping (q₀ q : Ring) (c : Cells) (from : ℕ) : Type 0 where
   pub chrom : q.chrom ≡ q₀.chrom
   pub same : back (λ r. not (ends from r)) (waiting q c) ≡ back (λ r. not (ends from r)) (waiting q₀ c)
 
-pub skipping_start : (q : Ring) (c : Cells) (from : ℕ) → Sound q → Skipping q q c from
-skipping_start q c from s = record { sound = s; room = refl; chrom = refl; same = refl }
-
 module _ (q₀ q : Ring) (c : Cells) (from : ℕ) (v : Skipping q₀ q c from) where
   pub skipping_end : q.len ≡ 0 → Skips q₀ c from q
   skipping_end h = record {

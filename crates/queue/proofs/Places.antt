@@ -41,10 +41,6 @@ module _ (h n : ℕ) (hn : h < n) where
       go (low a e) = omega arith
       go (high a e) = omega arith
 
-  -- the head's own place
-  pub place_zero : place h n 0 ≡ h
-  place_zero = omega (arith, place_low h n 0 (omega arith))
-
   -- no two numbers stand at one place
   pub place_apart : (j k : ℕ) → j < n → k < n → place h n j ≡ place h n k → j ≡ k
   place_apart j k jn kn same = go (placed h n j) (placed h n k)

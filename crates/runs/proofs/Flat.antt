@@ -1,10 +1,9 @@
 -- The run's flat arrays and the array of fours: the one from the other, and back.
-use mathlib.Core.Path.{◌≡◌, refl, ap}
+use mathlib.Core.Path.{◌≡◌, refl}
 use mathlib.Core.List.{List, [], ◌∷◌}
-use Prim.Native.Nat.{ℕ}
 use native.Mathlib.Omega.{arith}
 use lib.ListN.{length, get_or}
-use Rattle.heads.specs.View.{Heads, fours_of, column_in, heads_by}
+use Rattle.heads.specs.View.{Heads, fours_of, heads_by}
 use Rattle.heads.specs.Move.{Shaped}
 
 -- a list of eight, place by place
@@ -19,11 +18,6 @@ eight_of_lem d (a ∷ b ∷ c ∷ f ∷ g ∷ h ∷ []) e = absurd (omega (arith
 eight_of_lem d (a ∷ b ∷ c ∷ f ∷ g ∷ h ∷ i ∷ []) e = absurd (omega (arith, e))
 eight_of_lem d (a ∷ b ∷ c ∷ f ∷ g ∷ h ∷ i ∷ j ∷ []) e = refl
 eight_of_lem d (a ∷ b ∷ c ∷ f ∷ g ∷ h ∷ i ∷ j ∷ k ∷ l) e = absurd (omega (arith, e))
-
--- number i of each of eight fours
-pub column_of : (i : ℕ) (q : List (List ℕ)) → length q ≡ 8
-    → get_or (get_or q 0 []) i 0 ∷ get_or (get_or q 1 []) i 0 ∷ get_or (get_or q 2 []) i 0 ∷ get_or (get_or q 3 []) i 0 ∷ get_or (get_or q 4 []) i 0 ∷ get_or (get_or q 5 []) i 0 ∷ get_or (get_or q 6 []) i 0 ∷ get_or (get_or q 7 []) i 0 ∷ [] ≡ column_in i q
-column_of i q e = ap (column_in i) (eight_of_lem [] q e)
 
 -- the fours that are built from the flat arrays are the run's heads
 pub heads_flat : (h : Heads) → Shaped h → heads_by (fours_of h.chrom h.start h.stop h.row) h.ended h.next h.from h.to h.streams ≡ h

@@ -14,6 +14,7 @@ use Rattle.basics.proofs.SaysLaws.{says_eq, says_and}
 use Rattle.rules.specs.declared.Row.{Row}
 use Rattle.rules.specs.declared.Base.{Base}
 use Rattle.rules.specs.declared.Settings.{Settings}
+use Rattle.rules.specs.declared.Unbegun.{Unbegun}
 use Rattle.rules.specs.declared.Unbegun.TheVariants as unbegun
 use Rattle.rules.specs.declared.Refusal.TheVariants.{Sizes}
 use Rattle.rules.specs.Rows.{Record, number, numbered}
@@ -27,12 +28,12 @@ use Rattle.queue.proofs.Calls as queue
 use Rattle.admit.specs.Right.{measured}
 use Rattle.admit.specs.Fits.{Fits}
 use Rattle.admit.proofs.RightLaws.{right_off, fits_right}
-use Rattle.std.specs.Prelude.{Ok}
+use Rattle.std.specs.Prelude.{Ok, Err}
 use Rattle.runs.specs.declared.Run.{Run}
 use Rattle.runs.specs.View.{heads_of, run_of, eight}
 use Rattle.pulls.specs.Pulls.{Lent}
 use Rattle.runs.specs.Comes.{lens_of, right_of, given_of}
-use Rattle.runs.specs.Start.{Plan, names_of, row_in, streams_of, counted, evened, in_rows, in_text, lendable, fresh_run, none_run, start_of, Lends}
+use Rattle.runs.specs.Start.{Plan, names_of, row_in, streams_of, counted, evened, in_rows, in_text, lendable, fresh_run, none_run, start_of, kept_of, Lends}
 use Rattle.runs.proofs.ViewLaws.{eight_at}
 use Rattle.runs.proofs.Starting.{ranged_says, sized_of, sized_true, fits, judged, begun_is}
 
@@ -112,11 +113,19 @@ module _ (p : Plan) {r : Run} (begun : start_of p ≡ Ok r) (lengths : List ℕ)
 
 module _ (s : Cols) (lengths : List ℕ) (l : Lent) where
   -- "1 to 8 streams": the run that is kept then has none, so 1 is due whatever is lent
-  pub unbegun_wrong : right_of s lengths none_run l ≡ false
+  pub none_wrong : right_of s lengths none_run l ≡ false
   unfolding measured
-  unbegun_wrong = right_off (lens_of s lengths l) 0 0 (queue.fresh 0 (record { 0 = 0 })) (eight 1) (eight 0) (eight 0) (eight 0) (eight 0) l.cells refl
+  none_wrong = right_off (lens_of s lengths l) 0 0 (queue.fresh 0 (record { 0 = 0 })) (eight 1) (eight 0) (eight 0) (eight 0) (eight 0) l.cells refl
 
   -- every base that is given to it is refused by 1
-  pub unbegun_refused : (b : Base) → given_of s lengths none_run b l ≡ refuse (run_of s l.cells none_run) Sizes
+  pub none_refused : (b : Base) → given_of s lengths none_run b l ≡ refuse (run_of s l.cells none_run) Sizes
   unfolding give
-  unbegun_refused b = rw unbegun_wrong
+  none_refused b = rw none_wrong
+
+  -- so of the run that is kept of a start that was refused
+  module _ (p : Plan) (x : Unbegun) (refused : start_of p ≡ Err x) where
+    pub unbegun_wrong : right_of s lengths (kept_of (start_of p)) l ≡ false
+    unbegun_wrong = rw refused none_wrong
+
+    pub unbegun_refused : (b : Base) → given_of s lengths (kept_of (start_of p)) b l ≡ refuse (run_of s l.cells (kept_of (start_of p))) Sizes
+    unbegun_refused b = rw refused (none_refused b)

@@ -15,8 +15,7 @@ use rules::{Answer, Chrom, End, Settings, Stage};
 
 // A run: of each stream its head's chromosome, start, stop and row, its mark (0: it goes on), the place of the row behind its head in the lent
 // columns and where its rows begin and end there; what is fixed from the start; where the oldest that waits stands, how many wait and the chromosome
-// that they are on; how the run stands. Any content is a run. Flat arrays and numbers
-// alone, since a host keeps it in its own memory, in C's layout.
+// that they are on; how the run stands. Any content is a run. Flat arrays and numbers alone, since a host keeps it in its own memory, in C's layout.
 #[repr(C)]
 #[derive(Clone, Copy)]
 pub struct Run {
@@ -150,19 +149,8 @@ impl Run {
         ensures { result ≡ over_of self.now e }
     {
         Run {
-            chrom: [0; 8],
-            start: [0; 8],
-            stop: [0; 8],
-            row: [0; 8],
-            ended: [1; 8],
-            next: self.from,
-            from: self.from,
-            to: self.to,
-            settings: self.settings,
-            head: 0,
-            len: 0,
-            place: 0,
             mark: Mark::from(Stage::Over(e)),
+            ..Run::fresh(self.settings, self.from, self.to)
         }
     }
 }

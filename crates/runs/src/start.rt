@@ -10,7 +10,7 @@ use rules::{Settings, Stage, Unbegun};
 
 impl Run {
     // A run that has accepted no base: its heads are not loaded and nothing waits.
-    fn fresh(fixed: Settings, from: [usize; 8], to: [usize; 8]) -> Run
+    pub(crate) fn fresh(fixed: Settings, from: [usize; 8], to: [usize; 8]) -> Run
         ensures { result ≡ fresh_run fixed from to }
     {
         let none = [0; 8];

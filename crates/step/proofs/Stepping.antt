@@ -13,7 +13,7 @@ use Rattle.rules.specs.declared.Answer.TheVariants as answer
 use Rattle.rules.specs.Bases.{judge}
 use Rattle.std.specs.Prelude.{⊤, Result, Ok, Err}
 use Rattle.heads.specs.View.{Cols, Heads}
-use Rattle.heads.specs.Load.{Loadable, LoadsAs}
+use Rattle.heads.specs.Load.{Loadable}
 use Rattle.admit.specs.Gates.{Gate, lengths_of, last_of, judged_of, gate_of}
 use Rattle.pulls.specs.declared.Answered.{Answered}
 use Rattle.pulls.specs.Pulls.{Lent, Settleable, SettlesAs}
@@ -25,17 +25,6 @@ use Rattle.step.specs.Settle.{Going}
 use Rattle.step.specs.Give.{Gives}
 use Rattle.step.specs.Step.{Answerable, OpensAs, run_at, Ready, Steps}
 use Rattle.step.proofs.Giving.{Gated, refused_so, fits, answerable, settleable, ends_as, found_as, not_refused, further_so, first_wrong, first_shaped, first_answerable, over_same, first_so}
-
--- how the run stands, by another name
-pub opens_by : {t u : Stage} {s : Cols} {n : ℕ} {h g : Heads} {w : Result ⊤ End} → OpensAs t s n h w g → t ≡ u → OpensAs u s n h w g
-opens_by {s} {n} {h} {g} {w} x e = subst (λ (y : Stage). OpensAs y s n h w g) e x
-
--- the heads that were loaded, or that were there
-pub opens_first : {t : Stage} {s : Cols} {n m : ℕ} {h g : Heads} {w : Result ⊤ End} → t ≡ Fresh → LoadsAs s n h w g → n ≡ m → OpensAs t s m h w g
-opens_first {s} {m} {h} {g} {w} i x e = record { first = λ j. subst (λ (k : ℕ). LoadsAs s k h w g) e x; later = λ p j. let z : Fresh ≡ After p = sym i ∙ j in let y : ◌≡◌ {A = ℕ} 0 1 = cc in absurd (omega arith) }
-
-pub opens_later : {t : Stage} {s : Cols} {n : ℕ} {h : Heads} → (t ≡ Fresh → ⊥) → OpensAs t s n h (Ok tt) h
-opens_later f = record { first = λ j. absurd (f j); later = λ p j. record { check = refl; heads = refl } }
 
 module _ (s : Cols) (lengths : List ℕ) (h : Heads) (x : State) (b : Base) (l : Lent) (z : Ready s lengths h x l) where
   abbrev r : Run

@@ -3,7 +3,7 @@
 
 ghost use Rattle.std.specs.Prelude.{◌≡◌};
 ghost use Rattle.heads.specs.View.{cols_of, heads_in};
-ghost use Rattle.heads.specs.Load.{Loadable};
+ghost use Rattle.heads.specs.Load.{Loadable, RangesStay};
 ghost use Rattle.pulls.specs.Pulls.{lent};
 ghost use Rattle.step.specs.Step.{OpensAs, Ready, Steps};
 
@@ -24,17 +24,18 @@ pub struct State {
 // The heads are loaded where no base was accepted yet, or it is told what is wrong with a first row.
 fn opened(stage: Stage, heads: &mut Heads, chroms: usize, s: Columns) -> Result<(), End>
     requires { Loadable (cols_of s) (heads_in heads.old) }
-    ensures { OpensAs stage (cols_of s.entry) chroms (heads_in heads.old) result (heads_in heads.new) }
+    ensures opens { OpensAs stage (cols_of s.entry) chroms (heads_in heads.old) result (heads_in heads.new) }
+    ensures ranges { RangesStay (heads_in heads.old) (heads_in heads.new) }
 {
     match stage {
         Stage::Fresh => heads.load(chroms as u64, s),
-        Stage::After(_) => Ok(()),
-        Stage::Over(_) => Ok(()),
+        Stage::After(_) | Stage::Over(_) => Ok(()),
     }
 }
 
 // One base b of a run that stands so, goes on, and is not the cause of 1: what it gets, and the queue after it. The heads go on in place; what the run is
-// then is told by the answer.
+// then is told by the answer. What is lent is lent apart, as with `pulls::draw`; the columns and the lengths, too: `admit::judge` looks at no column, and
+// `pulls` at no length.
 pub fn step(
     heads: &mut Heads,
     at: State,
@@ -45,8 +46,9 @@ pub fn step(
     answers: &mut [[u64; 2]],
 ) -> Answered
     requires { Ready (cols_of s) lengths.now (heads_in heads.old) at (lent queue.old answers.old) }
-    ensures { Steps (cols_of s.entry) lengths.now (heads_in heads.old) at b (lent queue.old answers.old) result
+    ensures steps { Steps (cols_of s.entry) lengths.now (heads_in heads.old) at b (lent queue.old answers.old) result
         (heads_in heads.new) (lent queue.new answers.new) }
+    ensures ranges { RangesStay (heads_in heads.old) (heads_in heads.new) }
 {
     let ring = at.ring;
     let stage = Stage::from(at.mark);

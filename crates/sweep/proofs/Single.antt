@@ -5,7 +5,7 @@ use Prim.Native.Nat.{ℕ, ◌+◌}
 use native.Mathlib.Omega.{arith}
 use lib.ListN.{length}
 use Rattle.rules.specs.Offered.{Offer}
-use Rattle.std.specs.Prelude.{Option, Some, None}
+use Rattle.std.specs.Prelude.{Option, Some, None, MatchOption}
 use Rattle.rules.specs.declared.Answer.{Answer}
 use Rattle.rules.specs.declared.Answer.TheVariants as answer
 use Rattle.heads.specs.View.{Cols}
@@ -85,8 +85,8 @@ module _ {s : Cols} {lengths : List ℕ} {t : Cols} {r : Run} {l : Lent} {p : Pa
   answers = x.even even
 
   -- nothing stopped it: the base was answered
-  pub single_found : p.last ≡ None → Gives s lengths r (base_at t 0) l (record { run = p.run; answer = answer.Found p.records p.offer }) l'
-  single_found i =
+  pub single_unstopped : p.last ≡ None → Gives s lengths r (base_at t 0) l (record { run = p.run; answer = answer.Found p.records p.offer }) l'
+  single_unstopped i =
       let e = ends_one answers.ends n i in
       subst (λ (w : Run). Gives s lengths r (base_at t 0) l (record { run = w; answer = answer.Found p.records p.offer }) l') (sym e.run)
       (subst (λ (m : Lent). Gives s lengths r (base_at t 0) l (record { run = answers.run; answer = answer.Found p.records p.offer }) m) (sym e.lent) (passes_one answers.passes e.bases))
@@ -94,8 +94,8 @@ module _ {s : Cols} {lengths : List ℕ} {t : Cols} {r : Run} {l : Lent} {p : Pa
   pub single_one : p.last ≡ None → p.bases ≡ 1
   single_one i = (ends_one answers.ends n i).bases
 
-  pub single_other : (a : Answer) → p.last ≡ Some a → Gives s lengths r (base_at t 0) l (record { run = p.run; answer = a }) l'
-  single_other a i = (ends_none answers.passes answers.ends n a i).gives
+  pub single_stopped : (a : Answer) → p.last ≡ Some a → Gives s lengths r (base_at t 0) l (record { run = p.run; answer = a }) l'
+  single_stopped a i = (ends_none answers.passes answers.ends n a i).gives
 
   -- and no base was answered, so there are no records and nothing was offered
   pub single_none : (a : Answer) → p.last ≡ Some a → (p.bases ≡ 0) × ((p.records ≡ 0) × ((p.offer ≡ None) × Unfound a))
@@ -103,3 +103,21 @@ module _ {s : Cols} {lengths : List ℕ} {t : Cols} {r : Run} {l : Lent} {p : Pa
       let e = ends_none answers.passes answers.ends n a i in
       let b = passes_none answers.passes e.none in
       (e.none, (b.free, (b.offer, e.unfound)))
+
+  -- by how many bases were answered: one, or none
+  pub single_last : p.bases ≡ 1 → p.last ≡ None
+  single_last i = go p.last refl
+    where
+      go : (o : Option Answer) → p.last ≡ o → p.last ≡ None
+      go None e = e
+      go (Some a) e = absurd (omega (arith, i, (single_none a e).0))
+
+  pub single_found : p.bases ≡ 1 → Gives s lengths r (base_at t 0) l (record { run = p.run; answer = answer.Found p.records p.offer }) l'
+  single_found i = single_unstopped (single_last i)
+
+  pub single_other : (p.bases ≡ 1 → ⊥) → MatchOption p.last ⊥ (λ (a : Answer). Gives s lengths r (base_at t 0) l (record { run = p.run; answer = a }) l')
+  single_other f = go p.last refl
+    where
+      go : (o : Option Answer) → p.last ≡ o → MatchOption o ⊥ (λ (a : Answer). Gives s lengths r (base_at t 0) l (record { run = p.run; answer = a }) l')
+      go None e = f (single_one e)
+      go (Some a) e = single_stopped a e

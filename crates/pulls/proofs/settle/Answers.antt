@@ -10,4 +10,4 @@ draw-requires c =
 
 pub returns : goal.returns
 returns c =
-    settles_so (cols_of c.args.s) c.args.chroms (heads_in c.args.heads.now) c.args.b c.args.ring (lent c.args.queue.now c.args.answers.now) c.requires _ _ c.clear-live.ensures _ _ _ c.draw.ensures
+    record { settled = settles_so (cols_of c.args.s) c.args.chroms (heads_in c.args.heads.now) c.args.b c.args.ring (lent c.args.queue.now c.args.answers.now) c.requires _ _ c.clear-live.ensures _ _ _ c.draw.ensures.drawn; ranges = c.draw.ensures.ranges }

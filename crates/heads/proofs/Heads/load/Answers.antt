@@ -1,7 +1,8 @@
 -- `load` meets its contract. The loop's invariant: the heads are those of the streams passed, and none of these is at fault.
+use Rattle.std.proofs.Common.{refl}
 use Rattle.std.proofs.lemmas.Result.{err_from_is_err_and}
 use Rattle.heads.specs.View.{cols_of, heads_in}
-use Rattle.heads.proofs.LoadLaws.{Upto, load_starts, load_placed, load_stops, load_goes, load_ends}
+use Rattle.heads.proofs.LoadLaws.{Upto, load_starts, load_placed, load_stops, load_goes, load_ends, ranges_stay}
 use Rattle.heads.proofs.Heads.load.Goals as goal
 
 pub loop-k-init : goal.loop-k-init
@@ -15,12 +16,18 @@ begin-requires c =
 pub returns-in_err-begin : goal.returns-in_err-begin
 returns-in_err-begin c =
     let p = err_from_is_err_and c.from_residual.result c.from_residual.ensures.1 in
-    rw (p.1, p.2) (load_stops (cols_of c.args.s) (heads_in c.args.self.now) c.requires.shaped c.requires.placed c.args.n _ _ c.loop-k.invariant c.loop-k-test.true _ _ c.begin.ensures _ _ c.in_err-begin.was)
+    record {
+      loaded = rw (p.1, p.2) (load_stops (cols_of c.args.s) (heads_in c.args.self.now) c.requires.shaped c.requires.placed c.args.n _ _ c.loop-k.invariant c.loop-k-test.true _ _ c.begin.ensures.begun _ _ c.in_err-begin.was);
+      ranges = ranges_stay (cols_of c.args.s) (heads_in c.args.self.now) c.requires.shaped c.requires.placed c.args.n _ _ _ c.loop-k.invariant c.begin.ensures.ranges;
+    }
 
 pub loop-k-preserved : goal.loop-k-preserved
 loop-k-preserved c =
-    load_goes (cols_of c.args.s) (heads_in c.args.self.now) c.requires.shaped c.requires.placed c.args.n _ _ c.loop-k.invariant c.loop-k-test.true _ _ c.begin.ensures c.in_ok-begin.was
+    load_goes (cols_of c.args.s) (heads_in c.args.self.now) c.requires.shaped c.requires.placed c.args.n _ _ c.loop-k.invariant c.loop-k-test.true _ _ c.begin.ensures.begun c.in_ok-begin.was
 
 pub returns : goal.returns
 returns c =
-    load_ends (cols_of c.args.s) (heads_in c.args.self.now) c.requires.shaped c.requires.placed c.args.n _ _ c.loop-k.invariant c.loop-k-test.false
+    record {
+      loaded = load_ends (cols_of c.args.s) (heads_in c.args.self.now) c.requires.shaped c.requires.placed c.args.n _ _ c.loop-k.invariant c.loop-k-test.false;
+      ranges = ranges_stay (cols_of c.args.s) (heads_in c.args.self.now) c.requires.shaped c.requires.placed c.args.n _ _ _ c.loop-k.invariant (record { streams = refl; from = refl; to = refl });
+    }
