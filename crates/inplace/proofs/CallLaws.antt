@@ -1,20 +1,15 @@
 -- The calls over a run kept in place say what the calls by value do.
-use mathlib.Core.Path.{◌≡◌, refl, ap, ◌∙◌}
+use mathlib.Core.Path.{◌≡◌, ap, ◌∙◌}
 use mathlib.Core.List.{List}
 use Prim.Native.Nat.{ℕ}
 use lib.ListN.{length}
 use Rattle.rules.specs.declared.Settings.{Settings}
 use Rattle.heads.specs.View.{Cols}
-use Rattle.std.specs.Prelude.{Result, Ok, Err}
+use Rattle.std.specs.Prelude.{Result}
 use Rattle.rules.specs.declared.Unbegun.{Unbegun}
 use Rattle.runs.specs.declared.Run.{Run}
-use Rattle.rules.specs.Numbers.{unbegun_number}
-use Rattle.runs.specs.Start.{Plan, plan, start_of, kept_of, none_run}
-use Rattle.fields.specs.declared.ReadError.{ReadError}
-use Rattle.fields.specs.Table.{Found, Fills}
-use Rattle.inplace.specs.declared.readers.Tally.{Tally}
-use Rattle.inplace.specs.Calls.{eight_of, streams_in, plan_of, begun_number, BeginsInPlace}
-use Rattle.inplace.specs.Tally.{tally_of, Tallies}
+use Rattle.runs.specs.Start.{plan, start_of}
+use Rattle.inplace.specs.Calls.{eight_of, streams_in, plan_of}
 
 -- a run begun with ranges in two columns
 pub begins_so : (x : Settings) (from to : List ℕ) (text names_from names_to : List ℕ) (s : Cols) {n : ℕ} {begins ends : List ℕ} {t : Result Run Unbegun}

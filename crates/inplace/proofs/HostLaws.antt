@@ -41,7 +41,7 @@ use Rattle.many.specs.Alike.{AllAlike}
 use Rattle.many.proofs.Alikes.{all_alike}
 use Rattle.many.specs.Many.{base_at, Unfound, Even, uneven_by}
 use Rattle.demands.proofs.OneResult.{Alike, one_result}
-use Rattle.sweep.proofs.Single.{single_found, single_one, single_other, single_none}
+use Rattle.sweep.proofs.Single.{single_unstopped, single_one, single_stopped, single_none}
 use Rattle.inplace.specs.declared.Swept.{Swept}
 use Rattle.inplace.specs.Told.{offered_of, stopped_by, stopped_of, swept_of, alone_of}
 use Rattle.inplace.specs.Calls.{streams_in, plan_of, BeginsInPlace, GivesInPlace, answered, GivesAlone}
@@ -92,10 +92,10 @@ module _ {s : Cols} {lengths : List ℕ} {t : Cols} {r : Run} {l : Lent} {ns : L
     where
       go : (o : std.Option Answer) → g.passed.last ≡ o → GivesAlone s lengths r (base_at t 0) l a r' l'
       go None e =
-          let y = single_found n even g.gives e in
+          let y = single_unstopped n even g.gives e in
           record { told = g.told ∙ found_alone g.passed (single_one n even g.gives e) e y.settles.answer; gives = as_given y }
       go (Some x) e =
-          let y = single_other n even g.gives x e in
+          let y = single_stopped n even g.gives x e in
           record { told = g.told ∙ other_alone g.passed x (single_none n even g.gives x e) e y.settles.answer; gives = as_given y }
 
 -- ---- "run unchanged"
