@@ -10,7 +10,8 @@ ghost use Rattle.admit.specs.Gates.{lengths_of, last_of, judged_of};
 use queue::Ring;
 use rules::{Base, Refusal, Settings, Stage, Stream};
 
-// The lengths of what is lent with a base: the streams' columns, the chromosomes' lengths, the queue's slots and the answer rows.
+// The lengths of what is lent with a base: the streams' columns, the chromosomes' lengths, the queue's slots and the answer rows. Lengths alone, since 1
+// looks at nothing else of these but the slots that wait, and `right` of specs/Right is over them.
 #[derive(Clone, Copy)]
 pub struct Lens {
     pub chrom: usize,
@@ -22,7 +23,7 @@ pub struct Lens {
 }
 
 // The streams of a run: how many there are, and of each whether it has ended, its head's row, the place of the row behind its head, and where its
-// rows begin and end.
+// rows begin and end. Arrays, as the run has them in C's layout, and as `right` of specs/Right takes them.
 #[derive(Clone, Copy)]
 pub struct Streams<'a> {
     pub count: usize,

@@ -65,18 +65,11 @@ pub struct Heads {
     pub streams: usize,
 }
 
-// Whether a head is taken at a base: it lies on an earlier chromosome, or on the base's with start < base stop. Not by `cmp`: that costs ten
-// instructions a record more than the bar of `docs/PERFORMANCE.md` leaves.
+// Whether a head is taken at a base: it lies on an earlier chromosome, or on the base's with start < base stop.
 pub fn is_taken(b: Base, h: Best) -> bool
     ensures { result ≡ taken b (best_record h) }
 {
-    if h.chrom < b.chrom {
-        return true;
-    }
-    if b.chrom < h.chrom {
-        return false;
-    }
-    measures::reaches(b.stop, h.start)
+    h.chrom < b.chrom || h.chrom == b.chrom && measures::reaches(b.stop, h.start)
 }
 
 // Whether a head is live for a base: it is on the base's chromosome and ends after base start.

@@ -1,4 +1,4 @@
-// Calls for hosts: a run kept in place by its caller, and the readers.
+// Calls for hosts: a run kept in place by its caller, and the readers. Their slices are each a parameter, as C passes them.
 #![tactic(auto)]
 
 mod readers;
@@ -19,7 +19,7 @@ pub use runs::{Mark, Run};
 pub use told::{Offered, Stopped};
 
 // What bases came to that were given one after the other: how many were answered, how many records these have together, what was offered after the last
-// of them, and what stopped them, where the next one was given and got no records.
+// of them, and what stopped them, where the next one was given and got no records. C's layout: numbers alone.
 #[repr(C)]
 #[derive(Clone, Copy)]
 pub struct Swept {
@@ -37,7 +37,7 @@ fn eight_of(s: &[usize]) -> [usize; 8]
     [at(0), at(1), at(2), at(3), at(4), at(5), at(6), at(7)]
 }
 
-// How many streams there are: none where the two ends of their ranges are not of that number.
+// How many streams there are: none where the columns of their ranges' two ends are not both of that length.
 fn streams_in(streams: usize, from: usize, to: usize) -> usize
     ensures { result ≡ streams_in streams from to }
 {

@@ -54,14 +54,13 @@ fn stops_by(number: u64, stream: u64, row: u64) -> Stopped
     }
 }
 
-// What is told of what the base behind the answered ones got, if anything.
+// What is told of what the base behind the answered ones got, if anything; it is never `Found`.
 impl From<Option<Answer>> for Stopped {
     ghost from_gives = { λ a x. x ≡ stopped_of a };
 
     fn from(last: Option<Answer>) -> Stopped {
         match last {
-            None => stops_by(0, 0, 0),
-            Some(Answer::Found(_, _)) => stops_by(0, 0, 0),
+            None | Some(Answer::Found(_, _)) => stops_by(0, 0, 0),
             Some(Answer::Refused(x)) => stops_by(x.number(), 0, 0),
             Some(Answer::Ended(End::Faulty(s, row))) => stops_by(7, s.0, row),
             Some(Answer::Ended(End::Unsorted(s, row))) => stops_by(8, s.0, row),

@@ -15,7 +15,7 @@ use runs::{Mark, Run};
 use step::State;
 
 // What bases came to that were given one after the other: the run after them, how many were answered, how many records these have together, what was
-// offered after the last of them, and what the next one got, where it was given and got no records.
+// offered after the last of them, and what the next one got, where it was given and got no records (so it is never `Found`: `Unfound` of specs/Many).
 #[derive(Clone, Copy)]
 pub struct Passed {
     pub run: Run,
@@ -60,7 +60,7 @@ fn none_passed(run: Run, last: Option<Answer>) -> Passed
 }
 
 // The bases, one after the other, of a run that goes on and is not the cause of 1. There is at least one. The end of the run is told at once; every other
-// way out of the loop leads to its end, where the run is put together.
+// way out of the loop leads to its end, where the run is put together; `passed` says there what `k` was. What is lent is lent apart, as with `pulls::draw`.
 fn pass(
     run: Run,
     bases: Columns,

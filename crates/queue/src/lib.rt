@@ -111,7 +111,7 @@ impl Ring {
         })
     }
 
-    // Past the records at the front that do not end after from: the head moves, and no slot does. It counts no index: each turn is of a smaller ring.
+    // Past the records at the front that do not end after `from`: the head moves, and no slot does. It counts no index: each turn is of a smaller ring.
     #[tactic(auto, using(crate::proofs::Clearing::skipping_stop, crate::proofs::Clearing::skipping_next, crate::proofs::Clearing::skipping_end))]
     fn skip(self, queue: &[[u64; 4]], from: u64) -> Ring
         requires { Fair self queue.now }
@@ -125,7 +125,7 @@ impl Ring {
         led
     }
 
-    // How many records at the front end after from, up to the first that does not.
+    // How many records at the front end after `from`, up to the first that does not.
     #[tactic(auto, using(crate::proofs::Clearing::leads_all, crate::proofs::Clearing::leads_stop))]
     fn live_ahead(self, queue: &[[u64; 4]], from: u64) -> usize
         requires { Fair self queue.now }
@@ -139,7 +139,7 @@ impl Ring {
         self.len
     }
 
-    // The records that end after from, moved up in their order; the first n are known to be among them and stay.
+    // The records that end after `from`, moved up in their order; the first n are known to be among them and stay.
     #[tactic(auto, using(crate::proofs::Clearing::packing_start, crate::proofs::Clearing::packing_end))]
     fn pack(self, queue: &mut [[u64; 4]], from: u64, n: usize) -> Ring
         requires { Packable self queue.old from n }

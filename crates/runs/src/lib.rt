@@ -41,7 +41,7 @@ pub struct Given {
     pub answer: Answer,
 }
 
-// Number i of each four.
+// Number i of each four, place by place: no plainer by `array::from_fn`, whose proof did not close where it was tried (`inplace::eight_of`).
 fn column(fours: &[[u64; 4]; 8], i: usize) -> [u64; 8]
     requires { i < 4 }
     ensures { result ≡ column_in i fours.now }
@@ -76,7 +76,7 @@ impl Run {
         [self.chrom[k], self.start[k], self.stop[k], self.row[k]]
     }
 
-    // The heads, as an array of fours that is built from the flat arrays.
+    // The heads, as an array of fours that is built from the flat arrays, place by place as in `column`.
     pub fn heads(&self) -> Heads
         ensures fours { result.fours ≡ fours_of self.now.chrom self.now.start self.now.stop self.now.row }
         ensures heads { heads_in result ≡ heads_of self.now }

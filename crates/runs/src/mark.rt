@@ -29,7 +29,7 @@ impl Mark {
         }
     }
 
-    // The end that a mark of 7 to 10 stands for.
+    // The end that a mark of 7 to 10 stands for: read back by its number, so each number stands here.
     fn end(self) -> End
         ensures { result ≡ end_in self }
     {

@@ -10,7 +10,7 @@ use rules::{Answer, Base};
 use runs::{Given, Run};
 
 // Gives a base to a run: it goes through the call for many bases, as one. Lent are the streams' columns, the chromosomes' lengths, the queue's slots and
-// the answer rows.
+// the answer rows, each by itself, as with `pulls::draw`.
 pub fn give(
     run: Run,
     b: Base,
