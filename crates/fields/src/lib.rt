@@ -1,5 +1,6 @@
 // Texts read in one walk: where a field or a line ends, the number in a field, a name among names.
-// The functions here are called by proved readers alone.
+// A text and a place in it stay two parameters: the definitions take the two (`FieldTo`, `Past`, `ReadsLine`), and each step gives back
+// a place of the whole text, so a reader as a struct would be taken apart and made again at each step, and its clauses would say of which text.
 #![tactic(auto)]
 
 mod lists;
@@ -10,7 +11,7 @@ ghost use Rattle.fields.specs.Table.{error_number, error_rows};
 
 pub use lists::Names;
 
-// A list of names: a text, and where each name starts and ends there; of any places.
+// A list of names: a text, and where each name starts and ends there; of any places. Two columns side by side, as hosts lend them (C's layout).
 #[derive(Clone, Copy)]
 pub struct NameList<'a> {
     pub text: &'a [u8],
