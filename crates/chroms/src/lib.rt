@@ -11,7 +11,7 @@ ghost use Rattle.chroms.specs.Check.{fine_at, all_named, check_of, found_of};
 use fields::{NameList, Names, ReadError};
 use rules::{Settings, Unbegun};
 
-// The length of a chromosome whose line has none.
+// The length of a chromosome whose line has none. The column of lengths is lent by hosts, in C's layout: no Option.
 pub const UNKNOWN: u64 = u64::MAX;
 
 // A chromosome: where its name starts and ends in the text, and its length.
@@ -88,7 +88,8 @@ pub fn read_list(
     }
     let mut n: usize = 0;
     let mut at: usize = 0;
-    // By lines, of which each tells where the next one starts: a `for` has no such step.
+    // A line's end is known only when its fields are read: a walk by lines ahead of it (`split_inclusive`) would pass over each byte twice.
+    // The columns hold places of the whole text, too.
     while at < text.len() {
         let behind = fields::past(text, at);
         if at < behind {
@@ -117,11 +118,7 @@ fn is_fine(names: Names, k: usize) -> bool
     ensures { result ≡ fine_at names.entry.list.text.now names.entry.list.from.now names.entry.list.to.now k }
 {
     let name = names.name(k);
-    let size = name.len();
-    if size < 1 || 255 < size {
-        return false;
-    }
-    names.find_from(k + 1, name) == names.count()
+    (1..=255).contains(&name.len()) && names.find_from(k + 1, name) == names.count()
 }
 
 // Whether no name is empty, too long or there twice.
