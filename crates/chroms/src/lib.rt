@@ -1,12 +1,11 @@
 // The chromosome list: read from a text, checked, and asked for the number of a name.
 #![tactic(auto)]
 
-ghost use Rattle.std.specs.Prelude.{◌≡◌, ◌≤◌, ◌<◌, length, get_or};
-ghost use Rattle.fields.specs.Names.{listed};
+ghost use Rattle.std.specs.Prelude.{ℕ, true, IsTrue, ◌↔◌, ◌≡◌, ◌≤◌, ◌<◌, length, get_or};
 ghost use Rattle.fields.specs.Scan.{FieldTo};
 ghost use Rattle.fields.specs.Table.{Fills};
 ghost use Rattle.chroms.specs.Entry.{ReadsLine, list_found, from_of, to_of, len_of};
-ghost use Rattle.chroms.specs.Check.{fine_at, all_named, check_of, found_of};
+ghost use Rattle.chroms.specs.Check.{fine_at, check_of, found_of};
 
 use fields::{NameList, Names, ReadError};
 use rules::{Settings, Unbegun};
@@ -122,16 +121,10 @@ fn is_fine(names: Names, k: usize) -> bool
 }
 
 // Whether no name is empty, too long or there twice.
-#[tactic(auto, using(crate::proofs::Checks::checks))]
 fn are_fine(names: Names) -> bool
-    ensures { result ≡ all_named (listed names.entry.list) }
+    ensures { IsTrue result ↔ ((k : ℕ) → k < length names.entry.list.from.now → fine_at names.entry.list.text.now names.entry.list.from.now names.entry.list.to.now k ≡ true) }
 {
-    for k in 0..names.count() {
-        if !is_fine(names, k) {
-            return false;
-        }
-    }
-    true
+    (0..names.count()).all(|k| is_fine(names, k))
 }
 
 // Checks a list of names: 1 for its sizes, then 2 for its names.
