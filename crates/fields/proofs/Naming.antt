@@ -7,7 +7,7 @@ use native.Mathlib.Omega.{arith}
 use lib.ListN.{length, get_or, drop, length-take, length-drop}
 use lib.Dec.{leb, eqb}
 use lib.Pointwise.{pointwise}
-use Rattle.std.specs.Prelude.{IsTrue, ◌↔◌}
+use Rattle.std.specs.Prelude.{IsTrue, ◌↔◌, Option, Some, None, MatchOption, unwrap_or}
 use borrow.Author.Tests.{le-leb, leb-true}
 use Rattle.fields.specs.Names.{part, within, names, same, number_in, is_within, Others, IsFirst}
 use Rattle.fields.specs.declared.NameList.{NameList}
@@ -139,8 +139,12 @@ module _ (l : NameList) (first : ℕ) (name : List ℕ) (ok : is_within l ≡ tr
       let w = sought n (first + n) refl (omega (arith, z)) (λ i p q. o i p (omega (arith, q, z))) in
       rw z (seeking_next w (omega (arith, z)) (sym (o (first + n) (omega arith) (omega (arith, z)))))
 
-  pub sought_first : (i : ℕ) → IsFirst l name first i → i ≡ first + number_in (names l.text.now (drop first l.from.now) (drop first l.to.now)) name
+  sought_first : (i : ℕ) → IsFirst l name first i → i ≡ first + number_in (names l.text.now (drop first l.from.now) (drop first l.to.now)) name
   sought_first i f = seeking_found (sought (i - first) i (omega (arith, f.0)) (omega (arith, f.1)) f.3) f.1 (sym f.2)
 
-  pub sought_none : Others l name first (length l.from.now) → length l.from.now ≡ first + number_in (names l.text.now (drop first l.from.now) (drop first l.to.now)) name
+  sought_none : Others l name first (length l.from.now) → length l.from.now ≡ first + number_in (names l.text.now (drop first l.from.now) (drop first l.to.now)) name
   sought_none o = seeking_end (sought (length l.from.now - first) (length l.from.now) (omega arith) (omega arith) o) (omega arith)
+
+  pub sought_or : (r : Option ℕ) → MatchOption r (Others l name first (length l.from.now)) (IsFirst l name first) → unwrap_or r (length l.from.now) ≡ first + number_in (names l.text.now (drop first l.from.now) (drop first l.to.now)) name
+  sought_or (Some i) f = sought_first i f
+  sought_or None o = sought_none o

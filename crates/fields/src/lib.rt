@@ -119,7 +119,7 @@ fn is_over(text: &[u8], at: usize) -> bool
 }
 
 // The digits from `from` on, as far as `to`: their value, and where the walk over them stopped. So few always fit 64 bits, and no
-// turn asks.
+// turn asks. By place: a fold that stops would carry the value and the place as a pair from turn to turn, and be no plainer.
 #[tactic(auto, using(crate::proofs::Numbers::counts))]
 fn digits_from(text: &[u8], from: usize, to: usize) -> Number
     requires { (from ≤ to) × (to ≤ length text.now) × (to ≤ from + 19) }

@@ -44,9 +44,6 @@ impl<'a> Names<'a> {
         requires { first ≤ length self.list.from.now }
         ensures { result ≡ first + number_in (names self.entry.list.text.now (drop first self.entry.list.from.now) (drop first self.entry.list.to.now)) name.now }
     {
-        match self.found_from(first, name) {
-            Some(k) => k,
-            None => self.count(),
-        }
+        self.found_from(first, name).unwrap_or(self.count())
     }
 }
