@@ -1,7 +1,7 @@
 -- Laws of a check of names, one name at a time. Assumes nothing.
-use Prim.Native.Nat.{ℕ, ◌+◌, ◌-◌, ◌≤◌, ◌<◌}
+use Prim.Native.Nat.{ℕ, zero, suc, ◌+◌, ◌-◌, ◌≤◌, ◌<◌}
 use mathlib.Core.Path.{◌≡◌, refl, sym, ◌∙◌}
-use Rattle.std.specs.Prelude.{Some, None, Ok, Err}
+use Rattle.std.specs.Prelude.{Some, None, Ok, Err, IsTrue, ◌↔◌}
 use mathlib.Core.List.{List}
 use mathlib.Core.Bool.{Bool, true, false, cond, ◌&&◌, true≢false}
 use native.Mathlib.Omega.{arith}
@@ -11,7 +11,7 @@ use lib.ListN.{length, get_or, drop, length-drop}
 use lib.Dec.{leb, eqb}
 use borrow.Author.Tests.{le-leb, lt-leb, eq-eqb, ne_eqb, eqb-true}
 use Rattle.fields.specs.Names.{part, within, names, number_in}
-use Rattle.fields.proofs.Both.{and_no}
+use Rattle.fields.proofs.Both.{and_no, and_left, and_right}
 use Rattle.fields.proofs.Scan.{rest_none}
 use Rattle.fields.proofs.Naming.{within_even, within_from, names_cons, names_length}
 use Rattle.chroms.specs.Check.{all_named, fine_at, check_of, found_of, lookup_number}
@@ -42,29 +42,38 @@ module _ (text from to : List ℕ) (k : ℕ) (name : List ℕ) (is : name ≡ pa
 -- what the check of a name meets
 pub ruleset fines = (fine_empty, fine_long, fine_found)
 
--- the names before k are fine, so the rest decides
-pub record Checking (text from to : List ℕ) (k : ℕ) : Type 0 where
-  pub inside : k ≤ length from
-  pub rest : all_named (names text from to) ≡ all_named (names text (drop k from) (drop k to))
+-- the names from k on are named where each of them is fine
+module _ (text from to : List ℕ) (ok : within (length text) from to ≡ true) where
+  from_here : (k : ℕ) → k < length from → all_named (names text (drop k from) (drop k to)) ≡ fine_at text from to k && all_named (names text (drop (k + 1) from) (drop (k + 1) to))
+  unfolding all_named
+  from_here k h = rw (names_cons from to k h (omega (arith, within_even (length text) from to ok)) text)
 
-pub checking_start : (text from to : List ℕ) → Checking text from to 0
-checking_start text from to = record { inside = omega arith; rest = refl }
-
-module _ {text from to : List ℕ} {k : ℕ} (v : Checking text from to k) where
-  pub checking_end : length from ≤ k → all_named (names text from to) ≡ true
+  each_named : (n k : ℕ) → k + n ≡ length from → ((i : ℕ) → i < length from → fine_at text from to i ≡ true) → all_named (names text (drop k from) (drop k to)) ≡ true
   unfolding all_named names
-  checking_end h = v.rest ∙ rw (rest_none from k (omega (arith, v.inside)))
+  each_named zero k e h = rw (rest_none from k (omega (arith, e)))
+  each_named (suc n) k e h = from_here k (omega (arith, e)) ∙ rw (h k (omega (arith, e))) (each_named n (k + 1) (omega (arith, e)) h)
 
-  module _ (ok : within (length text) from to ≡ true) (h : k < length from) where
-    step : all_named (names text from to) ≡ fine_at text from to k && all_named (names text (drop (k + 1) from) (drop (k + 1) to))
-    unfolding all_named
-    step = v.rest ∙ rw (names_cons from to k h (omega (arith, within_even (length text) from to ok)) text)
+  named_each : (n k : ℕ) → k + n ≡ length from → all_named (names text (drop k from) (drop k to)) ≡ true → (i : ℕ) → k ≤ i → i < length from → fine_at text from to i ≡ true
+  named_each zero k e t i low high = absurd (omega (arith, e))
+  named_each (suc n) k e t i low high =
+      let both : fine_at text from to k && all_named (names text (drop (k + 1) from) (drop (k + 1) to)) ≡ true = sym (from_here k (omega (arith, e))) ∙ t in
+      go (dec_lt k i)
+      (λ l. named_each n (k + 1) (omega (arith, e)) (and_right (fine_at text from to k) (all_named (names text (drop (k + 1) from) (drop (k + 1) to))) both) i (omega (arith, l)) high)
+      (and_left (fine_at text from to k) (all_named (names text (drop (k + 1) from) (drop (k + 1) to))) both)
+    where
+      go : Dec (k < i) → (k < i → fine_at text from to i ≡ true) → fine_at text from to k ≡ true → fine_at text from to i ≡ true
+      go (yes l) further here = further l
+      go (no l) further here =
+          let z : i ≡ k = omega arith in
+          rw z here
 
-    pub checking_bad : fine_at text from to k ≡ false → all_named (names text from to) ≡ false
-    checking_bad e = step ∙ rw e
-
-    pub checking_next : fine_at text from to k ≡ true → Checking text from to (k + 1)
-    checking_next e = record { inside = omega arith; rest = step ∙ rw e }
+  pub all_fine : (r : Bool) → (IsTrue r ↔ ((k : ℕ) → k < length from → fine_at text from to k ≡ true)) → r ≡ all_named (names text from to)
+  all_fine true h = sym (each_named (length from) 0 (omega arith) (h.0 refl))
+  all_fine false h = go (all_named (names text from to)) refl
+    where
+      go : (t : Bool) → all_named (names text from to) ≡ t → false ≡ t
+      go true q = h.1 (λ k l. named_each (length from) 0 (omega arith) q k (omega arith) l)
+      go false q = refl
 
 -- each way for a list to be refused, and to be fine
 module _ (text from to : List ℕ) where
@@ -108,6 +117,3 @@ lookup_number_lem text from to name = go (within (length text) from to) (number_
     go : (c : Bool) (n : ℕ) → lookup_number (cond c (Some n) None) ≡ cond c 0 1
     go true n = refl
     go false n = refl
-
--- what a check of a list meets
-pub ruleset checks = (checking_start, checking_bad, checking_next, checking_end)

@@ -1,7 +1,7 @@
 -- What the bytes of a chromosome line say of it, field by field. Assumes nothing.
 use Prim.Native.Nat.{ℕ, ◌+◌, ◌<◌}
-use mathlib.Core.Path.{◌≡◌, refl, sym, ap, ◌∙◌}
-use Rattle.std.specs.Prelude.{Option, Some, None}
+use mathlib.Core.Path.{◌≡◌, refl, sym, ◌∙◌}
+use Rattle.std.specs.Prelude.{Some, None}
 use mathlib.Core.List.{List, [], ◌∷◌}
 use native.Mathlib.Omega.{arith}
 use lib.ListN.{length, get_or, drop}
@@ -9,13 +9,11 @@ use Rattle.fields.specs.Cut.{cut}
 use Rattle.fields.specs.Number.{good, bad, number_of}
 use Rattle.fields.specs.Table.{read_text}
 use borrow.Author.Tests.{eq-eqb}
-use Rattle.fields.specs.Scan.{line_at, field_at, next_line, number_at, FieldTo}
+use Rattle.fields.specs.Scan.{line_at, field_at, number_at, FieldTo}
 use Rattle.fields.specs.declared.Number.{Number}
 use Rattle.fields.proofs.Lines.{further, field_to, fields_are, fields_none, fields_out, fields_tab, next_none, next_lf, next_tab, stops_lf, stops_tab}
 use Rattle.fields.proofs.Numbers.{number_bad, number_good, number_to}
-use Rattle.chroms.specs.Entry.{unknown, entry_from, entry_of, list_found, ReadsLine, gives, leads}
-use Rattle.chroms.specs.declared.Entry.{Entry}
-use Rattle.chroms.specs.declared.Line.{Line}
+use Rattle.chroms.specs.Entry.{unknown, entry_from, entry_of, list_found, ReadsLine}
 
 -- a bad length is malformed whatever follows it
 unsized : (at : ℕ) (name len : List ℕ) (fs : List (List ℕ)) → number_of len ≡ bad → entry_from at (name ∷ len ∷ fs) ≡ bad
@@ -70,18 +68,6 @@ module _ {text : List ℕ} {at a : ℕ} (f : FieldTo text at a) where
 
 -- each way for a line to end
 pub ruleset lines = (one_none, one_lf, two_bad, two_none, two_lf, three)
-
--- what a line that was read tells
-module _ {text : List ℕ} {at : ℕ} {r : Option Line} (g : ReadsLine text at r) where
-  pub line_not : r ≡ None → entry_of at (line_at text at) ≡ bad
-  line_not q = g.line ∙ ap gives q
-
-  module _ {e : Entry} {next : ℕ} (q : r ≡ Some (record { entry = e; next = next })) where
-    pub line_is : entry_of at (line_at text at) ≡ good e
-    line_is = g.line ∙ ap gives q
-
-    pub line_next : next ≡ next_line text at
-    line_next = sym (ap (λ (l : Option Line). leads l (next_line text at)) q) ∙ g.next
 
 -- columns that are equally long are filled
 pub list_read : (text : List ℕ) (a b c : ℕ) → b ≡ a → c ≡ a → list_found text a b c ≡ read_text entry_of a text

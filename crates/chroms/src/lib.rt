@@ -1,17 +1,16 @@
 // The chromosome list: read from a text, checked, and asked for the number of a name.
 #![tactic(auto)]
 
-ghost use Rattle.std.specs.Prelude.{◌≡◌, ◌≤◌, ◌<◌, length, get_or};
-ghost use Rattle.fields.specs.Names.{listed};
+ghost use Rattle.std.specs.Prelude.{ℕ, true, IsTrue, ◌↔◌, ◌≡◌, ◌≤◌, ◌<◌, length, get_or};
 ghost use Rattle.fields.specs.Scan.{FieldTo};
 ghost use Rattle.fields.specs.Table.{Fills};
 ghost use Rattle.chroms.specs.Entry.{ReadsLine, list_found, from_of, to_of, len_of};
-ghost use Rattle.chroms.specs.Check.{fine_at, all_named, check_of, found_of};
+ghost use Rattle.chroms.specs.Check.{fine_at, check_of, found_of};
 
 use fields::{NameList, Names, ReadError};
 use rules::{Settings, Unbegun};
 
-// The length of a chromosome whose line has none.
+// The length of a chromosome whose line has none. The column of lengths is lent by hosts, in C's layout: no Option.
 pub const UNKNOWN: u64 = u64::MAX;
 
 // A chromosome: where its name starts and ends in the text, and its length.
@@ -88,7 +87,8 @@ pub fn read_list(
     }
     let mut n: usize = 0;
     let mut at: usize = 0;
-    // By lines, of which each tells where the next one starts: a `for` has no such step.
+    // A line's end is known only when its fields are read: a walk by lines ahead of it (`split_inclusive`) would pass over each byte twice.
+    // The columns hold places of the whole text, too.
     while at < text.len() {
         let behind = fields::past(text, at);
         if at < behind {
@@ -117,24 +117,14 @@ fn is_fine(names: Names, k: usize) -> bool
     ensures { result ≡ fine_at names.entry.list.text.now names.entry.list.from.now names.entry.list.to.now k }
 {
     let name = names.name(k);
-    let size = name.len();
-    if size < 1 || 255 < size {
-        return false;
-    }
-    names.find_from(k + 1, name) == names.count()
+    (1..=255).contains(&name.len()) && names.find_from(k + 1, name) == names.count()
 }
 
 // Whether no name is empty, too long or there twice.
-#[tactic(auto, using(crate::proofs::Checks::checks))]
 fn are_fine(names: Names) -> bool
-    ensures { result ≡ all_named (listed names.entry.list) }
+    ensures { IsTrue result ↔ ((k : ℕ) → k < length names.entry.list.from.now → fine_at names.entry.list.text.now names.entry.list.from.now names.entry.list.to.now k ≡ true) }
 {
-    for k in 0..names.count() {
-        if !is_fine(names, k) {
-            return false;
-        }
-    }
-    true
+    (0..names.count()).all(|k| is_fine(names, k))
 }
 
 // Checks a list of names: 1 for its sizes, then 2 for its names.

@@ -7,9 +7,10 @@ use native.Mathlib.Omega.{arith}
 use lib.ListN.{length, get_or, drop, length-take, length-drop}
 use lib.Dec.{leb, eqb}
 use lib.Pointwise.{pointwise}
-use Rattle.std.specs.Prelude.{IsTrue, ◌↔◌}
+use Rattle.std.specs.Prelude.{IsTrue, ◌↔◌, Option, Some, None, MatchOption, unwrap_or}
 use borrow.Author.Tests.{le-leb, leb-true}
-use Rattle.fields.specs.Names.{part, within, names, same, number_in}
+use Rattle.fields.specs.Names.{part, within, names, same, number_in, is_within, Others, IsFirst}
+use Rattle.fields.specs.declared.NameList.{NameList}
 use Rattle.fields.proofs.Both.{and_left, and_right}
 use Rattle.fields.proofs.Scan.{rest_cons, rest_none}
 
@@ -127,5 +128,23 @@ module _ {text fs ts : List ℕ} {first : ℕ} {name : List ℕ} {k : ℕ} (w : 
 -- what bounds a name
 pub ruleset insides = (within_even, within_low, within_high)
 
--- what a search for a name meets
-pub ruleset seeks = (seeking_start, seeking_found, seeking_next, seeking_end)
+-- the first of the names from a number on that has the bytes, or none
+module _ (l : NameList) (first : ℕ) (name : List ℕ) (ok : is_within l ≡ true) (low : first ≤ length l.from.now) where
+  sought : (n k : ℕ) → k ≡ first + n → k ≤ length l.from.now → Others l name first k → Seeking l.text.now l.from.now l.to.now first name k
+  sought zero k e h o =
+      let z : k ≡ first = omega (arith, e) in
+      rw z (seeking_start l.text.now l.from.now l.to.now first name ok low)
+  sought (suc n) k e h o =
+      let z : k ≡ first + n + 1 = omega (arith, e) in
+      let w = sought n (first + n) refl (omega (arith, z)) (λ i p q. o i p (omega (arith, q, z))) in
+      rw z (seeking_next w (omega (arith, z)) (sym (o (first + n) (omega arith) (omega (arith, z)))))
+
+  sought_first : (i : ℕ) → IsFirst l name first i → i ≡ first + number_in (names l.text.now (drop first l.from.now) (drop first l.to.now)) name
+  sought_first i f = seeking_found (sought (i - first) i (omega (arith, f.0)) (omega (arith, f.1)) f.3) f.1 (sym f.2)
+
+  sought_none : Others l name first (length l.from.now) → length l.from.now ≡ first + number_in (names l.text.now (drop first l.from.now) (drop first l.to.now)) name
+  sought_none o = seeking_end (sought (length l.from.now - first) (length l.from.now) (omega arith) (omega arith) o) (omega arith)
+
+  pub sought_or : (r : Option ℕ) → MatchOption r (Others l name first (length l.from.now)) (IsFirst l name first) → unwrap_or r (length l.from.now) ≡ first + number_in (names l.text.now (drop first l.from.now) (drop first l.to.now)) name
+  sought_or (Some i) f = sought_first i f
+  sought_or None o = sought_none o

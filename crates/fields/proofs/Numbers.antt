@@ -133,14 +133,6 @@ module _ {text : List ℕ} {from i v : ℕ} (r : Counting text from i v) where
         let val : value 0 (field_at text from) ≡ v = r.same_value ∙ rw none in
         rw (good_number (field_at text from) (omega arith) (omega arith) (r.same_digits ∙ rw none) (omega arith), len, val)
 
-  -- the text ends at i, or a tab or LF stands there
-  module _ (some : 1 ≤ i - from) (few : i - from ≤ 20) (fits : v ≤ 18446744073709551615) where
-    pub number_last : i ≡ length text → number_at text from ≡ Some (record { value = v; end = i })
-    number_last h = number_ends (front_none in_field text i h) some few fits
-
-    pub number_before : i < length text → in_field (get_or text i 0) ≡ false → number_at text from ≡ Some (record { value = v; end = i })
-    number_before h e = number_ends (front_out in_field text i h e) some few fits
-
 -- no digit stands where the field starts
 pub number_empty : {text : List ℕ} {from i v : ℕ} → Counting text from i v → i ≡ from → (i < length text → is_digit (get_or text i 0) ≡ false) → number_at text from ≡ None
 number_empty {text} {from} {i} r e h = go (dec_lt i (length text))

@@ -1,5 +1,6 @@
 -- Names as two columns, where each begins and where it ends in a text, and the number of a name in list order.
-use Rattle.std.specs.Prelude.{ℕ, suc, ◌-◌, List, [], ◌∷◌, Bool, true, false, cond, ◌&&◌, take, drop, leb, eqb, length}
+use Rattle.std.specs.Prelude.{ℕ, suc, ◌-◌, List, [], ◌∷◌, Bool, true, false, cond, ◌&&◌, take, drop, leb, eqb, length, get_or, ◌≡◌, ◌≤◌, ◌<◌}
+use lib.Pointwise.{pointwise}
 use Rattle.fields.specs.declared.NameList.{NameList}
 
 -- the bytes of a text from f up to t
@@ -37,3 +38,15 @@ same (a ∷ l) (b ∷ m) = eqb a b && same l m
 unfoldable pub number_in : List (List ℕ) → List ℕ → ℕ
 number_in [] name = 0
 number_in (n ∷ ns) name = cond (same n name) 0 (suc (number_in ns name))
+
+-- the name with the number k has the bytes of `name`
+abbrev pub has_bytes : NameList → List ℕ → ℕ → Bool
+has_bytes l name k = pointwise eqb (part (get_or l.from.now k 0) (get_or l.to.now k 0) l.text.now) name
+
+-- the names from `first` on and before n are others
+abbrev pub Others : NameList → List ℕ → ℕ → ℕ → Type 0
+Others l name first n = (k : ℕ) → first ≤ k → k < n → has_bytes l name k ≡ false
+
+-- i is the first number from `first` on under which the name stands
+abbrev pub IsFirst : NameList → List ℕ → ℕ → ℕ → Type 0
+IsFirst l name first i = (first ≤ i) × (i < length l.from.now) × (has_bytes l name i ≡ true) × Others l name first i

@@ -1,16 +1,18 @@
 // Texts read in one walk: where a field or a line ends, the number in a field, a name among names.
-// The functions here are called by proved readers alone.
+// A text and a place in it stay two parameters: the definitions take the two (`FieldTo`, `Past`, `ReadsLine`), and each step gives back
+// a place of the whole text, so a reader as a struct would be taken apart and made again at each step, and its clauses would say of which text.
 #![tactic(auto)]
 
 mod lists;
 
-ghost use Rattle.std.specs.Prelude.{◌≡◌, ◌+◌, ◌<◌, ◌≤◌, true, false, length, get_or, MatchOption, IsTrue, ◌↔◌, ℕ};
+ghost use Rattle.std.specs.Prelude.{◌≡◌, ◌+◌, ◌<◌, ◌≤◌, ◌==◌, ◌||◌, true, false, length, get_or, MatchOption, IsTrue, ◌↔◌, ℕ};
+ghost use Rattle.std.specs.List.{position};
 ghost use Rattle.fields.specs.Scan.{in_field, FieldTo, FieldOver, Past, next_line, number_at, Counting, Counted};
 ghost use Rattle.fields.specs.Table.{error_number, error_rows};
 
 pub use lists::Names;
 
-// A list of names: a text, and where each name starts and ends there; of any places.
+// A list of names: a text, and where each name starts and ends there; of any places. Two columns side by side, as hosts lend them (C's layout).
 #[derive(Clone, Copy)]
 pub struct NameList<'a> {
     pub text: &'a [u8],
@@ -59,32 +61,40 @@ pub struct Number {
     pub end: usize,
 }
 
+// The place of the first tab or LF.
+fn field_stop(rest: &[u8]) -> Option<usize>
+    ensures { result ≡ position (λ b. (b == 9) || (b == 10)) rest.now }
+{
+    rest.iter().position(|b| matches!(*b, b'\t' | b'\n'))
+}
+
+// The place of the first LF.
+fn line_stop(rest: &[u8]) -> Option<usize>
+    ensures { result ≡ position (λ b. b == 10) rest.now }
+{
+    rest.iter().position(|b| *b == b'\n')
+}
+
 // Where the field that starts at `from` ends: at the next tab or LF, or where the text ends.
-#[tactic(auto, using(crate::proofs::Scan::walks))]
 pub fn field_end(text: &[u8], from: usize) -> usize
     requires { from ≤ length text.now }
     ensures { FieldTo text.now from result }
 {
-    for i in from..text.len() {
-        if matches!(text[i], b'\t' | b'\n') {
-            return i;
-        }
+    match field_stop(&text[from..]) {
+        Some(i) => from + i,
+        None => text.len(),
     }
-    text.len()
 }
 
 // Where the line after the one that `from` lies in starts: behind the next LF, or where the text ends.
-#[tactic(auto, using(crate::proofs::Scan::walks))]
 pub fn next_line(text: &[u8], from: usize) -> usize
     requires { from ≤ length text.now }
     ensures { (result ≡ next_line text.now from) × (result ≤ length text.now) }
 {
-    for i in from..text.len() {
-        if text[i] == b'\n' {
-            return i + 1;
-        }
+    match line_stop(&text[from..]) {
+        Some(i) => from + i + 1,
+        None => text.len(),
     }
-    text.len()
 }
 
 // Past the line that starts at `at`, if it is empty or a comment; else `at` itself.
@@ -101,7 +111,7 @@ pub fn past(text: &[u8], at: usize) -> usize
 }
 
 // Whether a field ends at `at`: the text does, or a tab or LF stands there.
-#[tactic(auto, using(crate::proofs::Scan::walks))]
+#[tactic(auto, using(crate::proofs::Scan::overs))]
 fn is_over(text: &[u8], at: usize) -> bool
     ensures { FieldOver text.now at result }
 {
@@ -109,7 +119,7 @@ fn is_over(text: &[u8], at: usize) -> bool
 }
 
 // The digits from `from` on, as far as `to`: their value, and where the walk over them stopped. So few always fit 64 bits, and no
-// turn asks.
+// turn asks. By place: a fold that stops would carry the value and the place as a pair from turn to turn, and be no plainer.
 #[tactic(auto, using(crate::proofs::Numbers::counts))]
 fn digits_from(text: &[u8], from: usize, to: usize) -> Number
     requires { (from ≤ to) × (to ≤ length text.now) × (to ≤ from + 19) }

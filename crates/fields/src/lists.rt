@@ -12,8 +12,8 @@ pub struct Names<'a> {
 }
 
 impl<'a> Names<'a> {
-    ghost use Rattle.std.specs.Prelude.{◌≤◌, ◌<◌, ◌+◌, length, drop, get_or};
-    ghost use Rattle.fields.specs.Names.{part, names, number_in};
+    ghost use Rattle.std.specs.Prelude.{◌≤◌, ◌<◌, ◌+◌, length, drop, get_or, MatchOption};
+    ghost use Rattle.fields.specs.Names.{part, names, number_in, Others, IsFirst};
 
     // How many names there are.
     pub fn count(self) -> usize
@@ -31,17 +31,19 @@ impl<'a> Names<'a> {
         &self.list.text[self.list.from[k]..self.list.to[k]]
     }
 
+    // The first number from `first` on under which a name stands.
+    fn found_from(self, first: usize, name: &[u8]) -> Option<usize>
+        requires { first ≤ length self.list.from.now }
+        ensures { MatchOption result (Others self.entry.list name.now first (length self.entry.list.from.now)) (IsFirst self.entry.list name.now first) }
+    {
+        (first..self.count()).find(|k| self.name(*k) == name)
+    }
+
     // The number of a name in list order among those from the number `first` on, or the number after the last.
-    #[tactic(auto, using(crate::proofs::Naming::seeks))]
     pub fn find_from(self, first: usize, name: &[u8]) -> usize
         requires { first ≤ length self.list.from.now }
         ensures { result ≡ first + number_in (names self.entry.list.text.now (drop first self.entry.list.from.now) (drop first self.entry.list.to.now)) name.now }
     {
-        for k in first..self.count() {
-            if self.name(k) == name {
-                return k;
-            }
-        }
-        self.count()
+        self.found_from(first, name).unwrap_or(self.count())
     }
 }

@@ -1,5 +1,5 @@
 // The layout of a rule, written to the lent columns.
-// The seven columns that are written stay apart, in no struct: `Parted`, the promise of `parts::fragments`, names each as its caller lends it.
+// The seven columns that are written stay apart: a struct that holds `&mut` slices must say in each clause whose slice it still holds.
 #![tactic(auto)]
 
 ghost use Rattle.std.specs.Prelude.{◌≡◌, map, ◌≤◌, length};

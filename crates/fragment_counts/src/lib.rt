@@ -23,7 +23,8 @@ pub fn piece_count(giving: Giving, base: Span, r: Span) -> usize
     }
 }
 
-// How many pieces all records give.
+// How many pieces all records give. `put_all` has the walk, too: it writes, and this one counts with nothing lent.
+// A sum of `map(..)` was tried: its proof did not close.
 fn count_pieces(giving: Giving, base: Span, records: Records) -> usize
     ensures { result ≡ length (all_given giving base (spans_of records.entry)) }
 {

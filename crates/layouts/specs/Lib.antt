@@ -4,4 +4,5 @@ pub mod Given
 pub mod Layout
 pub mod Columns
 pub mod Judged
+pub mod Numbers
 pub mod Cases

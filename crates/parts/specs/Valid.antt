@@ -1,16 +1,9 @@
--- The number of each refusal, and when 1 is due.
+-- The number of an answer, and when 1 is due.
 use Rattle.std.specs.Prelude.{ℕ, List, length, Bool, ◌&&◌, eqb, Result, Ok, Err}
 use Rattle.layouts.specs.declared.Refusal.{Refusal}
-use Rattle.layouts.specs.declared.Refusal.TheVariants.{Sizes, Backwards, Records, Room}
+use Rattle.layouts.specs.Numbers.{refusal_number}
 use Rattle.layouts.specs.declared.Written.{Written}
 use Rattle.layouts.specs.Columns.{Columns}
-
--- the number of each refusal in the scope document's table
-abbrev pub refusal_number : Refusal → ℕ
-refusal_number Sizes = 1
-refusal_number Backwards = 6
-refusal_number Records = 13
-refusal_number Room = 14
 
 -- the number of an answer: 0 where the fragments are written
 abbrev pub number_of : Result Written Refusal → ℕ

@@ -3,7 +3,7 @@
 
 ghost use Rattle.std.specs.Prelude.{◌≡◌};
 ghost use Rattle.layouts.specs.Columns.{columns};
-ghost use Rattle.parts.specs.Valid.{number_of, refusal_number};
+ghost use Rattle.parts.specs.Valid.{number_of};
 ghost use Rattle.parts.specs.Promise.{Parted};
 
 use fragment_columns::lay;
@@ -63,18 +63,6 @@ pub fn number(r: Result<Written, Refusal>) -> u64
 {
     match r {
         Ok(_) => 0,
-        Err(x) => refusal_number(x),
-    }
-}
-
-// The number of a refusal in the scope document.
-fn refusal_number(x: Refusal) -> u64
-    ensures { result ≡ refusal_number x }
-{
-    match x {
-        Refusal::Sizes => 1,
-        Refusal::Backwards => 6,
-        Refusal::Records => 13,
-        Refusal::Room => 14,
+        Err(x) => x.number(),
     }
 }

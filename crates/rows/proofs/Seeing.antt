@@ -1,23 +1,16 @@
 -- A name held against the one seen last. Assumes nothing.
-use Prim.Native.Nat.{ℕ, ◌+◌, ◌-◌, ◌≤◌, ◌<◌}
+use Prim.Native.Nat.{ℕ, ◌+◌, ◌-◌, ◌≤◌}
 use mathlib.Core.Path.{◌≡◌, refl, sym, ap, ◌∙◌}
 use mathlib.Core.List.{List, [], ◌∷◌, ◌++◌, append-nil}
 use native.Mathlib.Omega.{arith}
 use native.Mathlib.Nat.{zero-add}
-use native.Mathlib.Numerals.{add-one}
-use lib.ListN.{length, get_or, take, drop, length-drop, length-append, take-append-drop}
-use lib.Seq.{take-suc, take-take, get_or-drop, drop-drop, length-take-le}
+use lib.ListN.{length, take, drop, length-drop, length-append, take-append-drop}
+use lib.Seq.{take-take, drop-drop, length-take-le}
 use Rattle.fields.specs.Names.{part, number_in}
 use Rattle.fields.specs.Scan.{front, in_field, field_at, FieldTo}
 use Rattle.fields.proofs.Scan.{front_append, front_prefix, front_take, front_front}
 use Rattle.rows.specs.Read.{Knows, NameAt}
 use Rattle.rows.specs.declared.Name.{Name}
-
--- one byte more agrees
-pub agree_next : (text : List ℕ) (a b i : ℕ) → take i (drop a text) ≡ take i (drop b text) → get_or text (a + i) 0 ≡ get_or text (b + i) 0 → a + i < length text → b + i < length text →
-    take (i + 1) (drop a text) ≡ take (i + 1) (drop b text)
-agree_next text a b i e q h k =
-    rw (add-one, take-suc (drop a text) i 0 (omega (arith, length-drop a text)), take-suc (drop b text) i 0 (omega (arith, length-drop b text)), get_or-drop a text i 0, get_or-drop b text i 0, e, q)
 
 -- a field as a part of the text
 pub part_field : {text : List ℕ} {at a : ℕ} → FieldTo text at a → part at a text ≡ field_at text at

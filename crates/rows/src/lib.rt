@@ -161,9 +161,9 @@ pub fn read_rows(
     let mut seen = unseen(names);
     let mut n: usize = 0;
     let mut at: usize = 0;
-    // By lines, of which each tells where the next one starts: a `for` has no such step. `chroms::read_list` has such a loop, too; what
-    // both keep is said once, by `Filling` in fields/proofs/Tables. One walk for both would take what a line gives, what it remembers
-    // of the line ahead and how it is stored as three parameters, in place of the lines in which the loops differ.
+    // A line's end is known only when its fields are read: a walk by lines ahead of it (`split_inclusive`) would pass over each byte twice.
+    // `chroms::read_list` has such a loop, too: one walk for both would take what a line gives, what is remembered of the line ahead and
+    // the three stores as parameters, in place of the lines in which the loops differ.
     while at < text.len() {
         let behind = fields::past(text, at);
         if at < behind {

@@ -1,5 +1,5 @@
 // Spans written to two lent columns, one behind the other: the pieces of records, the gaps of a base, the ranges of pieces.
-// The two columns of a call are two of those that `parts::fragments` is lent, and its promise `Parted` names each by itself: so they stay apart, in no struct.
+// The two columns of a call stay apart: a struct that holds `&mut` slices must say in each clause whose slice it still holds, so each clause here would get one part longer.
 #![tactic(auto)]
 
 ghost use Rattle.std.specs.Prelude.{◌≡◌, [], ◌∷◌, ◌<◌, ◌≤◌, length, replicate};
@@ -66,6 +66,7 @@ fn put_pieces(
 }
 
 // The pieces of all records, from the front of two columns on; how many.
+// The walk stands here and in `count_pieces`: that one counts with nothing lent, for the answer, and this one writes.
 pub fn put_all(
     giving: Giving,
     base: Span,

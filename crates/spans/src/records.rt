@@ -4,7 +4,7 @@ ghost use Rattle.std.specs.Prelude.{◌≡◌, ◌↔◌, length, IsSome, IfSome
 use crate::Span;
 
 // Starts and stops side by side, as many of the one as of the other.
-// A base stays a parameter beside them: it goes with one record alone as well (`clip`, `is_fitting`), and no fact ties it to the columns.
+// A base stays a parameter beside them: it goes with one record alone as well (`clip`, `is_fitting`), and no contract asks a fact that ties it to the columns.
 #[derive(Clone, Copy)]
 pub struct Records<'a> {
     pub starts: &'a [u64],

@@ -1,6 +1,6 @@
 -- `chroms::check_list` meets its contract: the tests come in the definition's order. Assumes nothing.
 use Rattle.std.proofs.Common.{arith, sym}
-use Rattle.chroms.proofs.Checks.{check_outside, check_uncounted, check_fine, check_names}
+use Rattle.chroms.proofs.Checks.{check_outside, check_uncounted, check_fine, check_names, all_fine}
 use Rattle.chroms.proofs.check_list.Goals as goal
 
 pub returns-in_default : goal.returns-in_default
@@ -11,8 +11,8 @@ returns-then-count-lt1 c = sym (check_uncounted _ _ _ c.in-Some.ensures.1 (λ p 
 
 pub returns-then-not-are_fine : goal.returns-then-not-are_fine
 returns-then-not-are_fine c =
-    sym (check_names _ _ _ c.in-Some.ensures.1 (omega arith) (omega arith) (sym (rw c.in-Some.ensures.0 at c.if-not-are_fine.ensures)))
+    sym (check_names _ _ _ c.in-Some.ensures.1 (omega arith) (omega arith) (sym (all_fine _ _ _ c.in-Some.ensures.1 _ (rw c.in-Some.ensures.0 at c.if-not-are_fine.ensures))))
 
 pub returns : goal.returns
 returns c =
-    sym (check_fine _ _ _ c.in-Some.ensures.1 (omega arith) (omega arith) (sym (rw c.in-Some.ensures.0 at c.if-not-are_fine.ensures)))
+    sym (check_fine _ _ _ c.in-Some.ensures.1 (omega arith) (omega arith) (sym (all_fine _ _ _ c.in-Some.ensures.1 _ (rw c.in-Some.ensures.0 at c.if-not-are_fine.ensures))))
