@@ -1,25 +1,18 @@
 -- The lines of the answer rows, one after the other: those that are left give the same.
 use Prim.Native.Nat.{ℕ, ◌+◌, ◌-◌, ◌≤◌, ◌<◌}
-use mathlib.Core.Path.{◌≡◌, refl, ◌∙◌}
+use mathlib.Core.Path.{◌≡◌, ◌∙◌}
 use mathlib.Core.List.{List}
 use native.Mathlib.Omega.{arith}
-use lib.ListN.{length, get_or}
+use lib.ListN.{length}
 use Rattle.basics.specs.Build.{build}
 use Rattle.basics.proofs.BuildLaws.{build_front, build_none}
 use Rattle.std.specs.Prelude.{Option, Some, Result, Ok, Err, ok_or}
 use Rattle.lines.specs.declared.Cut.{Cut}
-use Rattle.lines.specs.Lines.{line_r}
 use Rattle.lines.specs.Put.{Puts}
 use Rattle.lines.specs.Laid.{Lays}
 use Rattle.lines.proofs.Putting.{puts_length, puts_inside}
 use Rattle.lines.proofs.LaidLaws.{lays_none, lays_more, put_fits, lays_cut}
-use Rattle.replies.specs.Lines.{row_line}
 use Rattle.replies.specs.Source.{Source, line_at, row_lines}
-
--- a record's line, by the values that were read
-pub record_put : {old new : List ℕ} {at first begins ends : ℕ} {r : Option ℕ} (start stop from : List ℕ) (stream row : ℕ) → first ≡ get_or from stream 0 → begins ≡ get_or start (first + row) 0 → ends ≡ get_or stop (first + row) 0
-    → Puts old at (line_r stream row begins ends) r new → Puts old at (row_line start stop from stream row) r new
-record_put start stop from stream row f b e p = rw (← f, ← b, ← e) p
 
 -- i lines stand, and the next goes to a place
 pub record Writing (t : Source) (n : ℕ) (old : List ℕ) (at : ℕ) (out : List ℕ) (place i : ℕ) : Type 0 where
@@ -27,11 +20,6 @@ pub record Writing (t : Source) (n : ℕ) (old : List ℕ) (at : ℕ) (out : Lis
   pub kept : length out ≡ length old
   pub inside : place ≤ length out
   pub left : {r : Result ℕ Cut} {new : List ℕ} → Lays out place (build (line_at t) (n - i) i) r new → Lays old at (row_lines t n) r new
-
-pub writing_start : (t : Source) (n : ℕ) (old : List ℕ) (at : ℕ) → at ≤ length old → Writing t n old at old at 0
-writing_start t n old at h =
-    let e : n - 0 ≡ n = omega arith in
-    record { few = omega arith; kept = refl; inside = h; left = λ w. rw e at w }
 
 module _ {t : Source} {n : ℕ} {old : List ℕ} {at : ℕ} {out : List ℕ} {place i : ℕ} (w : Writing t n old at out place i) where
   pub writing_line : {p : ℕ} (c : Cut) {put : Option ℕ} {new : List ℕ} → i < n → Puts out place (line_at t i) put new → ok_or put c ≡ Ok p → Writing t n old at new p (i + 1)
