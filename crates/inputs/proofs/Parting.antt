@@ -113,11 +113,6 @@ sized_says n ends e =
       parts = and_right (within 3 10 (length ends)) (parts_all n 0 ends) more;
     }
 
--- the test, from what the test of the ends says
-pub sized_by_lem : (n : ℕ) (ends : List ℕ) {p : Bool} → p ≡ parts_all n 0 ends → leb n bytes_most && (within 3 10 (length ends) && p) ≡ sized_by n ends
-unfolding sized_by
-sized_by_lem n ends h = ap (λ (p : Bool). leb n bytes_most && (within 3 10 (length ends) && p)) h
-
 -- ---- the streams' texts
 
 module _ (bytes : List ℕ) where
