@@ -1,4 +1,5 @@
-// The listing of texts, written out one base's lines at a time.
+// The listing of texts, written out one base's lines at a time. Where the listing goes and where what fails is said stay two parameters: a struct of
+// both would have two type parameters, which each function here would name, and be no plainer.
 ghost use Rattle.std.specs.Prelude.{◌≡◌, ◌≤◌, length};
 ghost use Rattle.heads.specs.View.{cols_of};
 ghost use Rattle.inputs.specs.Parted.{texts_of};
@@ -7,23 +8,28 @@ ghost use Rattle.walk.specs.Memory.{FineIn};
 
 use crate::failure::fail;
 use crate::say;
-use inputs::Read;
+use inputs::{Read, Texts};
 use rules::Answer;
 use runs::Run;
 use std::io::Print;
 use walk::{Memory, Tables};
 
-// Writes out the lines that stand in the buffer up to a place, nothing where these are not all; what can't be written is said. Whether all is well.
-fn write_lines(stdout: &impl Print, stderr: &impl Print, out: &[u8], end: Option<usize>) -> bool {
+// Writes out the lines that stand in the buffer up to a place, nothing where these are not all. None where they can't be written, which is said.
+fn write_lines(
+    stdout: &impl Print,
+    stderr: &impl Print,
+    out: &[u8],
+    end: Option<usize>,
+) -> Option<()> {
     let Some(lines) = end.and_then(|n| out.get(..n)) else {
         say(stderr, "./cedarlash list: a base's lines don't fit\n");
-        return false;
+        return None;
     };
     match stdout.write_all(lines) {
-        Ok(()) => true,
+        Ok(()) => Some(()),
         Err(e) => {
             fail(stderr, b"standard output", e);
-            false
+            None
         }
     }
 }
@@ -45,10 +51,8 @@ fn list_bases(stdout: &impl Print, stderr: &impl Print, run: Run, n: usize, tabl
     let mut run = run;
     for i in 0..n {
         let base = walk::list_row(run, i, tables, &mut queue, &mut answers, &mut out, 0);
-        if !write_lines(stdout, stderr, &out, base.lines.ok()) {
-            return;
-        }
-        if matches!(base.answer, Answer::Ended(_)) {
+        let written = write_lines(stdout, stderr, &out, base.lines.ok());
+        if written.is_none() || matches!(base.answer, Answer::Ended(_)) {
             return;
         }
         run = base.run;
@@ -56,26 +60,19 @@ fn list_bases(stdout: &impl Print, stderr: &impl Print, run: Run, n: usize, tabl
 }
 
 // The listing of texts that were read, with nothing wrong.
-fn list_read(
-    stdout: &impl Print,
-    stderr: &impl Print,
-    read: Read,
-    bytes: &[u8],
-    ends: &[usize],
-    memory: &Memory,
-)
-    requires { FineIn (texts_of bytes.now ends.now) read memory.now }
+fn list_read(stdout: &impl Print, stderr: &impl Print, read: Read, texts: Texts, memory: &Memory)
+    requires { FineIn (texts_of texts.bytes.now texts.ends.now) read memory.now }
 {
-    let tables = memory.tables(read, bytes, ends);
+    let tables = memory.tables(read, texts);
     let run = walk::begin(read, tables);
     list_bases(stdout, stderr, run, read.bases, tables);
 }
 
-// The listing of texts, which stand one behind the other and end where it is told.
-pub fn list_texts(stdout: &impl Print, stderr: &impl Print, bytes: &[u8], ends: &[usize]) {
+// The listing of texts.
+pub fn list_texts(stdout: &impl Print, stderr: &impl Print, texts: Texts) {
     let mut memory = Memory::new();
-    match memory.read(bytes, ends) {
-        Ok(read) => list_read(stdout, stderr, read, bytes, ends, &memory),
+    match memory.read(texts) {
+        Ok(read) => list_read(stdout, stderr, read, texts, &memory),
         Err(e) => list_fault(stdout, stderr, e.number(), e.text(), e.ahead()),
     }
 }
