@@ -8,6 +8,7 @@ mod listing;
 
 ghost use Rattle.std.specs.Prelude.{◌≤◌};
 
+use crate::listing::Output;
 use inputs::Texts;
 use std::env::FillError;
 use std::io::Print;
@@ -58,6 +59,10 @@ fn main(rt: HostRuntime) {
             bytes: &bytes[..n],
             ends: &ends[..count],
         };
-        listing::list_texts(&stdout, &stderr, texts);
+        let output = Output {
+            stdout: &stdout,
+            stderr: &stderr,
+        };
+        output.list_texts(texts);
     }
 }
