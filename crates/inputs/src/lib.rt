@@ -135,18 +135,11 @@ fn check_verdict(list: NameList) -> Result<(), InputError>
 }
 
 // Whether the ends part n bytes: none of them falls, and the last is n.
-#[tactic(auto, using(crate::proofs::Parting::partings))]
 fn parts_all(n: usize, ends: &[usize]) -> bool
     ensures { result ≡ parts_all n 0 ends.now }
 {
-    let mut at: usize = 0;
-    for end in ends {
-        if *end < at {
-            return false;
-        }
-        at = *end;
-    }
-    at == n
+    let last = ends.last().copied().unwrap_or(0);
+    ends.is_sorted() && last == n
 }
 
 // Whether there are as many bytes and texts as there may be, and the ends part them.

@@ -3,16 +3,23 @@ use Prim.Native.Nat.{ℕ, ◌+◌, ◌-◌, ◌≤◌, ◌<◌}
 use mathlib.Core.Path.{◌≡◌, ◌∙◌}
 use mathlib.Core.List.{List}
 use native.Mathlib.Omega.{arith}
-use lib.ListN.{length}
+use lib.ListN.{length, get_or}
 use Rattle.basics.specs.Build.{build}
 use Rattle.basics.proofs.BuildLaws.{build_front, build_none}
 use Rattle.std.specs.Prelude.{Option, Some, Result, Ok, Err, ok_or}
 use Rattle.lines.specs.declared.Cut.{Cut}
+use Rattle.lines.specs.Lines.{line_r}
 use Rattle.lines.specs.Put.{Puts}
 use Rattle.lines.specs.Laid.{Lays}
 use Rattle.lines.proofs.Putting.{puts_length, puts_inside}
 use Rattle.lines.proofs.LaidLaws.{lays_none, lays_more, put_fits, lays_cut}
+use Rattle.replies.specs.Lines.{row_line}
 use Rattle.replies.specs.Source.{Source, line_at, row_lines}
+
+-- a record's line, by the values that were read
+pub record_put : {old new : List ℕ} {at first begins ends : ℕ} {r : Option ℕ} (start stop from : List ℕ) (stream row : ℕ) → first ≡ get_or from stream 0 → begins ≡ get_or start (first + row) 0 → ends ≡ get_or stop (first + row) 0
+    → Puts old at (line_r stream row begins ends) r new → Puts old at (row_line start stop from stream row) r new
+record_put start stop from stream row f b e p = rw (← f, ← b, ← e) p
 
 -- i lines stand, and the next goes to a place
 pub record Writing (t : Source) (n : ℕ) (old : List ℕ) (at : ℕ) (out : List ℕ) (place i : ℕ) : Type 0 where
