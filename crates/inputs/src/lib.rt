@@ -248,18 +248,17 @@ pub fn read_texts(
     let b = texts.ends[1];
     let list = &texts.bytes[..a];
     let named = read_names(list, from, to, len);
-    let n = named.count;
     let names = NameList {
         text: list,
-        from: &from[..n],
-        to: &to[..n],
+        from: &from[..named.count],
+        to: &to[..named.count],
     };
     let r = read_part(&texts.bytes[a..b], names, bchrom, bstart, bstop, 0);
     let s = read_streams(texts, names, chrom, start, stop);
     named.verdict.and(verdict_at(1, r).and(s.verdict))?;
     let to = s.to;
     Ok(Read {
-        names: n,
+        names: named.count,
         bases: rows_ahead(r),
         streams: texts.ends.len() - 2,
         to,
