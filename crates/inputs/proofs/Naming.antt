@@ -166,10 +166,3 @@ module _ (list from to len : List ℕ) (r : Result ℕ ReadError) (from' to' len
   names_got {n} {a} {b} {v} hn hb ha hv =
       let is : v ≡ result_and (verdict_at 0 r) (check_verdict (check_of list (take (rows_of r) from') (take (rows_of r) to'))) = hv ∙ rw (ha, hb, hn) in
       rw (is, hn) names_read
-
-  -- the columns hold them
-  pub count_from : {n : ℕ} → n ≡ rows_of r → n ≤ length from'
-  count_from h = omega (arith, h, names_count, names_few list, from_long)
-
-  pub count_to : {n : ℕ} → n ≡ rows_of r → n ≤ length to'
-  count_to h = omega (arith, h, names_count, names_few list, to_long)

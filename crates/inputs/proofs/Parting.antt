@@ -6,14 +6,15 @@ use mathlib.Core.List.{List, [], ◌∷◌}
 use Prim.Native.Nat.{ℕ, zero, suc, ◌+◌, ◌-◌, ◌≤◌, ◌<◌}
 use native.Mathlib.Omega.{arith}
 use lib.Dec.{leb, eqb}
-use lib.ListN.{length, get_or, drop}
-use lib.Seq.{drop-cons}
-use borrow.Author.Tests.{le-leb, lt-leb, leb-true, eqb-true}
+use lib.ListN.{length, get_or}
+use borrow.Author.Tests.{le-leb, leb-true, eqb-true}
 use Rattle.basics.specs.Lists.{total}
 use Rattle.basics.proofs.SaysLaws.{says_same, says_map, says_le, says_and}
 use Rattle.fields.specs.Names.{part}
 use Rattle.fields.proofs.Both.{and_left, and_right, and_no}
 use Rattle.fields.proofs.Naming.{part_length}
+use Rattle.std.specs.Option.{unwrap_or}
+use Rattle.std.specs.Prelude.{MatchBool, slice_get, slice_index_or}
 use Rattle.rules.specs.Start.{within}
 use Rattle.inputs.specs.Texts.{fault, bytes_most, bytes_of, sizes_fault}
 use Rattle.inputs.specs.Parted.{parted_at, parts_all, stream_texts, texts_from, texts_of, sized_by}
@@ -34,32 +35,6 @@ parted_get bytes at (e ∷ ends) (suc k) h = parted_get bytes e ends k (omega ar
 
 -- ---- the ends
 
--- a test of ends goes on from the one at k
-pub record Parting (n : ℕ) (ends : List ℕ) (at k : ℕ) : Type 0 where
-  pub inside : k ≤ length ends
-  pub rest : parts_all n 0 ends ≡ parts_all n at (drop k ends)
-
-pub parting_start : (n : ℕ) (ends : List ℕ) → Parting n ends 0 0
-parting_start n ends = record { inside = omega arith; rest = refl }
-
-module _ {n : ℕ} {ends : List ℕ} {at k : ℕ} (w : Parting n ends at k) where
-  parting_cons : k < length ends → parts_all n 0 ends ≡ leb at (get_or ends k 0) && parts_all n (get_or ends k 0) (drop (suc k) ends)
-  unfolding parts_all
-  parting_cons h = w.rest ∙ rw (drop-cons ends k 0 h)
-
-  pub parting_falls : k < length ends → get_or ends k 0 < at → parts_all n 0 ends ≡ false
-  parting_falls h f = parting_cons h ∙ rw (lt-leb at (get_or ends k 0) f)
-
-  pub parting_next : k < length ends → at ≤ get_or ends k 0 → Parting n ends (get_or ends k 0) (k + 1)
-  parting_next h f = record { inside = omega arith; rest = parting_cons h ∙ rw (le-leb at (get_or ends k 0) f, let e : k + 1 ≡ suc k = omega arith in e) }
-
-  pub parting_end : length ends ≤ k → eqb at n ≡ parts_all n 0 ends
-  unfolding parts_all
-  parting_end h = let e : drop k ends ≡ [] = none_left in sym (w.rest ∙ rw e)
-    where
-      none_left : drop k ends ≡ []
-      none_left = lib.ListN.drop_of_length-le ends h
-
 -- the last end is that of the bytes, and none falls
 pub ends_last : (n at : ℕ) (ends : List ℕ) → parts_all n at ends ≡ true → at ≤ n
 unfolding parts_all
@@ -78,6 +53,46 @@ unfolding parts_all
 ends_inside n at [] k e h = absurd (omega arith)
 ends_inside n at (x ∷ ends) zero e h = ends_last n x ends (and_right (leb at x) (parts_all n x ends) e)
 ends_inside n at (x ∷ ends) (suc k) e h = ends_inside n x ends k (and_right (leb at x) (parts_all n x ends) e) (omega arith)
+
+-- ends of which none falls part as many bytes as the last says
+ends_risen : (n at : ℕ) (ends : List ℕ) → ((k : ℕ) → k < length ends → get_or (at ∷ ends) k 0 ≤ get_or ends k 0) → eqb (get_or (at ∷ ends) (length ends) 0) n ≡ parts_all n at ends
+unfolding parts_all
+ends_risen n at [] h = refl
+ends_risen n at (x ∷ ends) h = rw (le-leb at x (h 0 (omega arith))) (ends_risen n x ends (λ k b. h (suc k) (omega arith)))
+
+-- ends of which one falls part none
+ends_fallen : (n : ℕ) (ends : List ℕ) (k : ℕ) → k + 1 < length ends → get_or ends (k + 1) 0 < get_or ends k 0 → false ≡ parts_all n 0 ends
+ends_fallen n ends k b f = go (parts_all n 0 ends) refl
+  where
+    go : (t : Bool) → parts_all n 0 ends ≡ t → false ≡ t
+    go true e = let one : k + 1 ≡ suc k = omega arith in absurd (omega (arith, ends_rise n 0 ends (suc k) e (omega arith), ap (λ (m : ℕ). get_or ends m 0) one))
+    go false e = refl
+
+-- the last of them; 0 where there is none
+item_is : (xs : List ℕ) (k : ℕ) → unwrap_or (slice_get xs k) 0 ≡ get_or xs k 0
+item_is [] k = refl
+item_is (x ∷ xs) zero = refl
+item_is (x ∷ xs) (suc k) = item_is xs k
+
+pub last_is : (ends : List ℕ) → unwrap_or (slice_get ends (length ends - 1)) 0 ≡ get_or (0 ∷ ends) (length ends) 0
+last_is [] = refl
+last_is (x ∷ ends) = let e : suc (length ends) - 1 ≡ length ends = omega arith in rw e (item_is (x ∷ ends) (length ends))
+
+-- no end falls, and one does
+abbrev Rises : List ℕ → Type 0
+Rises ends = (i j d : ℕ) → i ≤ j → j < length ends → slice_index_or ends i d ≤ slice_index_or ends j d
+
+abbrev Falls : List ℕ → Type 0
+Falls ends = (k : ℕ) × (k + 1 < length ends) × ((d : ℕ) → get_or ends (k + 1) d < get_or ends k d)
+
+-- the test of the ends, by whether they rise and by the last of them
+pub ends_tested : (n : ℕ) (ends : List ℕ) (s : Bool) {last : ℕ} → MatchBool s (Rises ends) (Falls ends) → last ≡ get_or (0 ∷ ends) (length ends) 0 → s && eqb last n ≡ parts_all n 0 ends
+ends_tested n ends true h e = rw e (ends_risen n 0 ends below)
+  where
+    below : (k : ℕ) → k < length ends → get_or (0 ∷ ends) k 0 ≤ get_or ends k 0
+    below zero b = omega arith
+    below (suc k) b = h k (suc k) 0 (omega arith) b
+ends_tested n ends false h e = ends_fallen n ends h.0 h.1 (h.2 0)
 
 -- ---- in all
 
@@ -200,6 +215,3 @@ sizes_test bytes ends = go (parts_all (length bytes) 0 ends) refl
 -- "First 1 for text size or stream count", by the ends
 pub texts_sizes : (bytes ends : List ℕ) → sizes_fault (texts_of bytes ends) ≡ cond (sized_by (length bytes) ends) none (some (fault 1 0 0))
 texts_sizes bytes ends = ap (λ (t : Bool). cond t none (some (fault 1 0 0))) (sizes_test bytes ends)
-
--- what a test of ends meets
-pub ruleset partings = (parting_start, parting_falls, parting_next, parting_end)

@@ -3,7 +3,7 @@ use mathlib.Core.Path.{◌≡◌, sym, ap, subst, ◌∙◌}
 use mathlib.Core.Bool.{Bool, true, false, cond}
 use mathlib.Core.Option.{Option, none, some}
 use mathlib.Core.List.{List, map}
-use Prim.Native.Nat.{ℕ, ◌+◌, ◌-◌, ◌*◌, ◌≤◌}
+use Prim.Native.Nat.{ℕ, ◌+◌, ◌-◌, ◌≤◌}
 use native.Mathlib.Omega.{arith}
 use native.Mathlib.Nat.{sub-zero}
 use lib.ListN.{length, get_or, take}
@@ -18,11 +18,11 @@ use Rattle.heads.specs.View.{Cols}
 use Rattle.std.specs.Result.{result_and}
 use Rattle.inputs.specs.Texts.{Texts, Fault, fault, rows_most, names_in, rows_in, base_from, bases_of, streams_in, found_fault, list_fault, streams_fault, sizes_fault, fault_of}
 use Rattle.inputs.specs.Parted.{stream_texts, texts_of, sized_by}
-use Rattle.inputs.specs.Read.{fault_by, verdict_at, NamesRead, read_in, base_in, Slots, PartRead, Readable, StreamsRead, Rooms, Reads}
+use Rattle.inputs.specs.Read.{fault_by, verdict_at, NamesRead, read_in, base_in, PartRead, StreamsRead, Rooms, Reads}
 use Rattle.inputs.specs.declared.InputError.{InputError}
 use Rattle.inputs.specs.declared.InputError.TheVariants.{Sizes}
 use Rattle.inputs.specs.declared.Read.{Read}
-use Rattle.inputs.specs.declared.Names.{Names}
+use Rattle.inputs.specs.declared.ListRead.{ListRead}
 use Rattle.inputs.specs.declared.Streams.{Streams}
 use Rattle.inputs.proofs.Columns.{map_build}
 use Rattle.inputs.proofs.Parting.{Sized, sized_says, ends_follow, ends_inside, streams_count, texts_list, texts_bases, texts_streams, texts_sizes}
@@ -61,22 +61,8 @@ module _ (bytes ends : List ℕ) (ok : sized_by (length bytes) ends ≡ true) wh
   pub bases_within : get_or ends 1 0 ≤ length bytes
   bases_within = ends_inside (length bytes) 0 ends 1 (sized_says (length bytes) ends ok).parts (omega (arith, some_texts))
 
--- the slots that the bases and the streams ask for, where the names are read
-module _ {list from to len : List ℕ} {named : Names} (hn : NamesRead list named from to len) where
-  pub base_slots : {b : Cols} → length b.chrom ≡ rows_most → length b.start ≡ rows_most → length b.stop ≡ rows_most → Slots list (take named.count from) (take named.count to) 0 b
-  base_slots bc bs be = record { inside = hn.columns.inside; starts = bs ∙ sym bc; stops = be ∙ sym bc; room = omega (arith, bc) }
-
-  pub streams_readable : {bytes ends : List ℕ} {s : Cols} → sized_by (length bytes) ends ≡ true → length s.chrom ≡ 8 * rows_most → length s.start ≡ 8 * rows_most → length s.stop ≡ 8 * rows_most → Readable bytes ends list (take named.count from) (take named.count to) s
-  streams_readable ok sc ss se = record { sized = ok; inside = hn.columns.inside; chrom = sc; start = ss; stop = se }
-
-  pub count_from : length from ≡ rows_most → named.count ≤ length from
-  count_from h = omega (arith, hn.columns.few)
-
-  pub count_to : length to ≡ rows_most → named.count ≤ length to
-  count_to h = omega (arith, hn.columns.few)
-
 -- the texts whose sizes are right
-module _ (bytes ends from to len : List ℕ) (b₀ b s : Cols) (named : Names) (r : Result ℕ ReadError) (st : Streams) (ok : sized_by (length bytes) ends ≡ true) where
+module _ (bytes ends from to len : List ℕ) (b₀ b s : Cols) (named : ListRead) (r : Result ℕ ReadError) (st : Streams) (ok : sized_by (length bytes) ends ≡ true) where
   abbrev a : ℕ
   a = get_or ends 0 0
 

@@ -13,7 +13,7 @@ use Rattle.rules.specs.declared.Row as rules
 use Rattle.rules.specs.Streams.{else}
 use Rattle.fields.specs.Table.{rows_of}
 use Rattle.fields.specs.Names.{part, number_in}
-use Rattle.std.specs.Prelude.{Result, Ok}
+use Rattle.std.specs.Prelude.{Result}
 use Rattle.fields.specs.declared.ReadError.{ReadError}
 use Rattle.rows.specs.Row.{row_of}
 use Rattle.heads.specs.View.{Cols}
@@ -73,17 +73,6 @@ pub record Streaming (ns ss : List (List ℕ)) (s : Cols) (v : Result (Unit {0})
   pub low : (j : ℕ) → j < k → j * rows_most ≤ get_or tops j 0
   pub high : (j : ℕ) → j < k → get_or tops j 0 ≤ j * rows_most + rows_most
   pub done : (j : ℕ) → j < k → build (read_in s) (get_or tops j 0 - j * rows_most) (j * rows_most) ≡ (rows_in ns (get_or ss j [])).rows
-
-pub streaming_start : (ns ss : List (List ℕ)) (s : Cols) (tops : List ℕ) → Even s → length tops ≡ 8 → Streaming ns ss s (Ok tt) tops 0
-streaming_start ns ss s tops even eight = record {
-  inside = omega arith;
-  even = even;
-  eight = eight;
-  rest = refl;
-  low = λ j h. absurd (omega arith);
-  high = λ j h. absurd (omega arith);
-  done = λ j h. absurd (omega arith);
-}
 
 -- the text of stream k is read from place p on
 module _ {ns ss : List (List ℕ)} {s s' : Cols} {v : Result (Unit {0}) InputError} {tops : List ℕ} {k p : ℕ} {r : Result ℕ ReadError} {text : List ℕ} (w : Streaming ns ss s v tops k) (below : k < length ss) (few : length ss ≤ 8) (at : p ≡ k * rows_most)

@@ -16,7 +16,7 @@ use Rattle.inputs.specs.Texts.{Texts, Fault, fault, rows_most, names_in, lens_in
 use Rattle.inputs.specs.Parted.{sized_by}
 use Rattle.inputs.specs.declared.InputError.{InputError}
 use Rattle.inputs.specs.declared.InputError.TheVariants.{Sizes, Names, Malformed, Full}
-use Rattle.inputs.specs.declared.Names as names
+use Rattle.inputs.specs.declared.ListRead.{ListRead}
 use Rattle.inputs.specs.declared.Streams.{Streams}
 use Rattle.inputs.specs.declared.Read.{Read}
 
@@ -58,7 +58,7 @@ pub record Named (list : List ℕ) (n : ℕ) (from to len : List ℕ) : Type 0 w
   pub named : names list (take n from) (take n to) ≡ names_in list
   pub lengths : take n len ≡ lens_in list
 
-pub record NamesRead (list : List ℕ) (r : names.Names) (from to len : List ℕ) : Type 0 where
+pub record NamesRead (list : List ℕ) (r : ListRead) (from to len : List ℕ) : Type 0 where
   pub verdict : (k : ℕ) → 1 ≤ k → k ≤ 8 → fault_by r.verdict ≡ list_fault k list
   pub columns : Named list r.count from to len
 

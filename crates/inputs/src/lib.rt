@@ -1,5 +1,5 @@
 // The texts of a listing, read to columns, and what is wrong with them before the run.
-// The functions here are called by the proved listing alone.
+// The functions here are called by proved crates and the listing's program.
 #![tactic(auto)]
 
 ghost use Rattle.std.specs.Prelude.{◌≡◌, true, ◌+◌, ◌*◌, ◌≤◌, length};
@@ -13,6 +13,16 @@ ghost use Rattle.inputs.specs.Read.{told, error_by, verdict_at, check_verdict, N
 
 use fields::{NameList, ReadError};
 use rules::{Settings, Unbegun};
+
+// The texts of a listing: the bytes of one behind the other's, and where each of them ends.
+#[derive(Clone, Copy)]
+pub struct Texts<'a> {
+    pub bytes: &'a [u8],
+    pub ends: &'a [usize],
+}
+
+// The most rows of a text.
+pub const ROWS: usize = 1024;
 
 // What is wrong before the run.
 #[derive(Clone, Copy, PartialEq, Eq)]
@@ -73,14 +83,16 @@ impl From<Unbegun> for InputError {
     }
 }
 
-// What is wrong with the list, and how many names there are.
+// What is wrong with the list, and how many names were read: also where something is wrong, since reading goes on behind a fault with the names
+// that were read, and `Reads` says what the columns hold then.
 #[derive(Clone, Copy)]
-struct Names {
+struct ListRead {
     verdict: Result<(), InputError>,
     count: usize,
 }
 
-// What is wrong with the streams, and where each one's rows end in the columns.
+// What is wrong with the streams, and where each one's rows end in the columns: also where something is wrong, since reading goes on behind a fault,
+// and `Reads` says what the columns hold then.
 #[derive(Clone, Copy)]
 struct Streams {
     verdict: Result<(), InputError>,
@@ -112,47 +124,37 @@ fn verdict_at(k: u64, r: Result<usize, ReadError>) -> Result<(), InputError>
 fn rows_ahead(r: Result<usize, ReadError>) -> usize
     ensures { result ≡ rows_of r }
 {
-    match r {
-        Ok(n) => n,
-        Err(e) => e.rows(),
-    }
+    r.unwrap_or_else(|e| e.rows())
 }
 
 // What is wrong with the list's count of names, or with a name.
 fn check_verdict(list: NameList) -> Result<(), InputError>
     ensures { result ≡ check_verdict (check_of list.entry.text.now list.entry.from.now list.entry.to.now) }
 {
-    chroms::check_list(list)?;
-    Ok(())
+    Ok(chroms::check_list(list)?)
 }
 
 // Whether the ends part n bytes: none of them falls, and the last is n.
-#[tactic(auto, using(crate::proofs::Parting::partings))]
 fn parts_all(n: usize, ends: &[usize]) -> bool
     ensures { result ≡ parts_all n 0 ends.now }
 {
-    let mut at: usize = 0;
-    for end in ends {
-        if *end < at {
-            return false;
-        }
-        at = *end;
-    }
-    at == n
+    let last = ends.last().copied().unwrap_or(0);
+    ends.is_sorted() && last == n
 }
 
 // Whether there are as many bytes and texts as there may be, and the ends part them.
-fn is_sized(n: usize, ends: &[usize]) -> bool
-    ensures { result ≡ sized_by n ends.now }
+#[tactic(auto, unfolding(crate::specs::Parted::sized_by))]
+fn is_sized(texts: Texts) -> bool
+    ensures { result ≡ sized_by (length texts.entry.bytes.now) texts.entry.ends.now }
 {
-    let texts = ends.len();
-    let few = (3 <= texts) & (texts <= Settings::STREAMS + 2);
-    let parted = parts_all(n, ends);
-    (n <= 65536) & (few & parted)
+    let n = texts.bytes.len();
+    let few = (3..=Settings::STREAMS + 2).contains(&texts.ends.len());
+    let parted = parts_all(n, texts.ends);
+    n <= 65536 && few && parted
 }
 
 // Reads the list to its columns: its 11 and 12, then 1 for its count of names, then 2.
-fn read_names(list: &[u8], from: &mut [usize], to: &mut [usize], len: &mut [u64]) -> Names
+fn read_names(list: &[u8], from: &mut [usize], to: &mut [usize], len: &mut [u64]) -> ListRead
     requires { (length from.old ≡ rows_most) × (length to.old ≡ rows_most) × (length len.old ≡ rows_most) }
     ensures { NamesRead list.now result from.new to.new len.new × (length from.new ≡ rows_most) × (length to.new ≡ rows_most) × (length len.new ≡ rows_most) }
 {
@@ -164,7 +166,7 @@ fn read_names(list: &[u8], from: &mut [usize], to: &mut [usize], len: &mut [u64]
         to: &to[..count],
     };
     let checked = check_verdict(names);
-    Names {
+    ListRead {
         verdict: verdict_at(0, r).and(checked),
         count,
     }
@@ -183,7 +185,7 @@ fn read_part(
     ensures { PartRead (listed names.entry) text.now p
         (cols chrom.old start.old stop.old) result (cols chrom.new start.new stop.new) }
 {
-    let e = p + 1024;
+    let e = p + ROWS;
     rows::read_rows(
         text,
         names,
@@ -195,37 +197,36 @@ fn read_part(
 
 // Reads each stream's text to its own part of the columns, and goes on behind a fault.
 fn read_streams(
-    bytes: &[u8],
-    ends: &[usize],
+    texts: Texts,
     names: NameList,
     chrom: &mut [u64],
     start: &mut [u64],
     stop: &mut [u64],
 ) -> Streams
-    requires { Readable bytes.now ends.now names.text.now names.from.now names.to.now (cols chrom.old start.old stop.old) }
-    ensures { StreamsRead (listed names.entry) (stream_texts bytes.now ends.now) result
+    requires { Readable texts.bytes.now texts.ends.now names.text.now names.from.now names.to.now (cols chrom.old start.old stop.old) }
+    ensures { StreamsRead (listed names.entry) (stream_texts texts.entry.bytes.now texts.entry.ends.now) result
         (cols chrom.new start.new stop.new) }
 {
+    let ends = texts.ends;
     let n = ends.len() - 2;
     let mut verdict = Ok(());
     let mut to = [0; 8];
     for k in 0..n {
         let a = ends[k + 1];
         let b = ends[k + 2];
-        let p = k * 1024;
-        let r = read_part(&bytes[a..b], names, chrom, start, stop, p);
+        let p = k * ROWS;
+        let r = read_part(&texts.bytes[a..b], names, chrom, start, stop, p);
         to[k] = p + rows_ahead(r);
         verdict = verdict.and(verdict_at((k + 2) as u64, r));
     }
     Streams { verdict, to }
 }
 
-// Reads all texts to their columns, and says what is wrong before the run. Given are the texts one behind the other and where each
-// ends; lent are columns for the names, for the bases and, in eight parts, for the streams' rows. Each column is lent by itself: `Reads`
-// names it.
+// Reads all texts to their columns, and says what is wrong before the run. Lent are columns for the names, for the bases and,
+// in eight parts, for the streams' rows. Each column is lent by itself, here and where a part is read: of a struct that holds lent slices, each
+// clause would have to say whose slices it still holds.
 pub fn read_texts(
-    bytes: &[u8],
-    ends: &[usize],
+    texts: Texts,
     from: &mut [usize],
     to: &mut [usize],
     len: &mut [u64],
@@ -237,30 +238,29 @@ pub fn read_texts(
     stop: &mut [u64],
 ) -> Result<Read, InputError>
     requires { Rooms from.old to.old len.old (cols bchrom.old bstart.old bstop.old) (cols chrom.old start.old stop.old) }
-    ensures { Reads (texts_of bytes.now ends.now) result from.new to.new len.new
+    ensures { Reads (texts_of texts.entry.bytes.now texts.entry.ends.now) result from.new to.new len.new
         (cols bchrom.new bstart.new bstop.new) (cols chrom.new start.new stop.new) }
 {
-    if !is_sized(bytes.len(), ends) {
+    if !is_sized(texts) {
         return Err(InputError::Sizes);
     }
-    let a = ends[0];
-    let b = ends[1];
-    let list = &bytes[..a];
+    let a = texts.ends[0];
+    let b = texts.ends[1];
+    let list = &texts.bytes[..a];
     let named = read_names(list, from, to, len);
-    let n = named.count;
     let names = NameList {
         text: list,
-        from: &from[..n],
-        to: &to[..n],
+        from: &from[..named.count],
+        to: &to[..named.count],
     };
-    let r = read_part(&bytes[a..b], names, bchrom, bstart, bstop, 0);
-    let s = read_streams(bytes, ends, names, chrom, start, stop);
+    let r = read_part(&texts.bytes[a..b], names, bchrom, bstart, bstop, 0);
+    let s = read_streams(texts, names, chrom, start, stop);
     named.verdict.and(verdict_at(1, r).and(s.verdict))?;
     let to = s.to;
     Ok(Read {
-        names: n,
+        names: named.count,
         bases: rows_ahead(r),
-        streams: ends.len() - 2,
+        streams: texts.ends.len() - 2,
         to,
     })
 }

@@ -1,6 +1,6 @@
 -- Numbers as fields, one after the other: how many bytes they take, and that they are written.
 use Prim.Native.Nat.{ℕ, ◌+◌, ◌≤◌, ◌<◌}
-use mathlib.Core.Path.{◌≡◌, refl, sym, ap, ◌∙◌}
+use mathlib.Core.Path.{◌≡◌, sym, ap, ◌∙◌}
 use mathlib.Core.List.{List, [], ◌∷◌, ◌++◌}
 use native.Mathlib.Omega.{arith}
 use native.Mathlib.Numerals.{add-one}
@@ -29,9 +29,6 @@ pub record Writing (old : List ℕ) (at : ℕ) (ns out : List ℕ) (i k : ℕ) :
   pub kept : length out ≡ length old
   pub place : i + length (numbered (drop k ns)) ≡ at + length (numbered ns)
   pub left : laid out i (numbered (drop k ns)) ≡ laid old at (numbered ns)
-
-pub writing_start : (old : List ℕ) (at : ℕ) (ns : List ℕ) → Writing old at ns old at 0
-writing_start old at ns = record { few = omega arith; kept = refl; place = refl; left = refl }
 
 module _ {old : List ℕ} {at : ℕ} {ns out : List ℕ} {i k : ℕ} (w : Writing old at ns out i k) (fits : at + length (numbered ns) ≤ length old) where
   pub writing_room : k < length ns → i + 1 + length (decimal (get_or ns k 0)) ≤ length out

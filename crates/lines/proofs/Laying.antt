@@ -42,13 +42,6 @@ module _ (l : List ℕ) (at : ℕ) (xs : List ℕ) (fits : at + length xs ≤ le
   pub laid_append : (ys : List ℕ) → laid l at (xs ++ ys) ≡ laid (laid l at xs) (at + length xs) ys
   laid_append ys = laid_onto ys (laid l at xs) laid_take laid_drop
 
--- one byte
-pub laid_one : (l : List ℕ) (at b : ℕ) → at < length l → laid l at (b ∷ []) ≡ set l at b
-unfolding laid
-laid_one l at b h =
-    let e : at + 1 ≡ suc at = omega arith in
-    rw (set_split l at b h, e, append_assoc (take at l) (b ∷ []) (drop (suc at) l))
-
 -- the last byte first, and then the bytes ahead of it
 pub laid_snoc : (l : List ℕ) (at : ℕ) (xs : List ℕ) (b : ℕ) → at + length xs < length l → laid l at (xs ++ (b ∷ [])) ≡ laid (set l (at + length xs) b) at xs
 unfolding laid

@@ -1,5 +1,6 @@
 // The lines of the listing, written to a lent buffer: a line is written whole, or nothing of it is.
-// The functions here are called by the proved listing alone.
+// The functions here are called by proved crates and the listing's program. The buffer and the place in it stay two parameters: of a struct that
+// holds a lent slice, each clause would have to say whose slice it still holds.
 #![tactic(auto)]
 
 ghost use Rattle.std.specs.Prelude.{◌≡◌, [], ◌∷◌, ◌++◌, ◌+◌, ◌≤◌, length};

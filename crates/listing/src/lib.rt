@@ -13,18 +13,30 @@ ghost use Rattle.listing.specs.Listing.{listing};
 ghost use Rattle.listing.specs.Run.{lines_from, step_of, told_of};
 ghost use Rattle.listing.specs.Call.{Writes};
 
-use inputs::Read;
+use inputs::{Read, Texts};
 use lines::Cut;
 use rules::Answer;
 use runs::Run;
 use walk::{Memory, Tables};
 
-// 0, or 14 where the listing is longer than its buffer; and how many bytes of it stand there.
+// 0, or 14 where the listing is longer than its buffer; and how many bytes of it stand there. C's layout: numbers alone.
 #[repr(C)]
 #[derive(Clone, Copy)]
 pub struct Listing {
     pub number: u64,
     pub length: usize,
+}
+
+// What became of the lines, in numbers.
+impl From<Result<usize, Cut>> for Listing {
+    ghost from_gives = { λ lines x. x ≡ told_of lines };
+
+    fn from(lines: Result<usize, Cut>) -> Listing {
+        match lines {
+            Ok(length) => Listing { number: 0, length },
+            Err(Cut(length)) => Listing { number: 14, length },
+        }
+    }
 }
 
 // The place from which the listing goes on behind a base's lines: where all of them stand and the run has not ended.
@@ -68,18 +80,13 @@ fn list_bases(
     Ok(at)
 }
 
-// The listing of texts that were read, with nothing wrong.
-fn list_run(
-    read: Read,
-    bytes: &[u8],
-    ends: &[usize],
-    memory: &Memory,
-    out: &mut [u8],
-) -> Result<usize, Cut>
-    requires { FineIn (texts_of bytes.now ends.now) read memory.now }
-    ensures { Lays out.old 0 (listing (texts_of bytes.now ends.now)) result out.new }
+// The listing of texts that were read, with nothing wrong. The program's `list_read` is its twin, and its `list_texts` that of the one below: both
+// call `list_bases`, of which no contract can speak there.
+fn list_run(read: Read, texts: Texts, memory: &Memory, out: &mut [u8]) -> Result<usize, Cut>
+    requires { FineIn (texts_of texts.bytes.now texts.ends.now) read memory.now }
+    ensures { Lays out.old 0 (listing (texts_of texts.entry.bytes.now texts.entry.ends.now)) result out.new }
 {
-    let tables = memory.tables(read, bytes, ends);
+    let tables = memory.tables(read, texts);
     let run = walk::begin(read, tables);
     let mut queue = [[0; 4]; 1024];
     let mut answers = [[0; 2]; 1024];
@@ -87,23 +94,13 @@ fn list_run(
 }
 
 // The listing of texts: a fault before the run gives one line, else the bases are listed.
-fn list_texts(bytes: &[u8], ends: &[usize], out: &mut [u8]) -> Result<usize, Cut>
-    ensures { Lays out.old 0 (listing (texts_of bytes.now ends.now)) result out.new }
+fn list_texts(texts: Texts, out: &mut [u8]) -> Result<usize, Cut>
+    ensures { Lays out.old 0 (listing (texts_of texts.entry.bytes.now texts.entry.ends.now)) result out.new }
 {
     let mut memory = Memory::new();
-    match memory.read(bytes, ends) {
-        Ok(read) => list_run(read, bytes, ends, &memory, out),
+    match memory.read(texts) {
+        Ok(read) => list_run(read, texts, &memory, out),
         Err(e) => lines::put_fault(out, 0, e.number(), e.text(), e.ahead()).ok_or(Cut(0)),
-    }
-}
-
-// What became of the lines, in numbers.
-fn told(lines: Result<usize, Cut>) -> Listing
-    ensures { result ≡ told_of lines }
-{
-    match lines {
-        Ok(length) => Listing { number: 0, length },
-        Err(Cut(length)) => Listing { number: 14, length },
     }
 }
 
@@ -113,5 +110,5 @@ fn told(lines: Result<usize, Cut>) -> Listing
 pub extern "C" fn cedarlash_list(bytes: &[u8], ends: &[usize], out: &mut [u8]) -> Listing
     ensures { Writes (texts_of bytes.now ends.now) out.old result out.new }
 {
-    told(list_texts(bytes, ends, out))
+    list_texts(Texts { bytes, ends }, out).into()
 }

@@ -7,75 +7,75 @@ ghost use Rattle.walk.specs.Memory.{FineIn};
 
 use crate::failure::fail;
 use crate::say;
-use inputs::Read;
+use inputs::{InputError, Read, Texts};
 use rules::Answer;
 use runs::Run;
 use std::io::Print;
 use walk::{Memory, Tables};
 
-// Writes out the lines that stand in the buffer up to a place, nothing where these are not all; what can't be written is said. Whether all is well.
-fn write_lines(stdout: &impl Print, stderr: &impl Print, out: &[u8], end: Option<usize>) -> bool {
-    let Some(lines) = end.and_then(|n| out.get(..n)) else {
-        say(stderr, "./cedarlash list: a base's lines don't fit\n");
-        return false;
-    };
-    match stdout.write_all(lines) {
-        Ok(()) => true,
-        Err(e) => {
-            fail(stderr, b"standard output", e);
-            false
+// Where the listing goes, and where what fails is said.
+#[derive(Drop)]
+pub struct Output<'a, O, E> {
+    pub stdout: &'a O,
+    pub stderr: &'a E,
+}
+
+impl<O: Print, E: Print> Output<'_, O, E> {
+    // Writes out the lines that stand in the buffer up to a place, nothing where these are not all. None where they can't be written, which is said.
+    fn write_lines(&self, out: &[u8], end: Option<usize>) -> Option<()> {
+        let Some(lines) = end.and_then(|n| out.get(..n)) else {
+            say(self.stderr, "./cedarlash list: a base's lines don't fit\n");
+            return None;
+        };
+        match self.stdout.write_all(lines) {
+            Ok(()) => Some(()),
+            Err(e) => {
+                fail(self.stderr, b"standard output", e);
+                None
+            }
         }
     }
-}
 
-// The line of what is wrong before the run.
-fn list_fault(stdout: &impl Print, stderr: &impl Print, number: u64, text: u64, ahead: u64) {
-    let mut out = [0; 128];
-    let end = lines::put_fault(&mut out, 0, number, text, ahead);
-    let _ = write_lines(stdout, stderr, &out, end);
-}
-
-// The lines of n bases, until the run ends.
-fn list_bases(stdout: &impl Print, stderr: &impl Print, run: Run, n: usize, tables: Tables)
-    requires { Bases tables.names.text.now tables.names.from.now tables.names.to.now (cols_of tables.bases) n }
-{
-    let mut queue = [[0; 4]; 1024];
-    let mut answers = [[0; 2]; 1024];
-    let mut out = [0; 131072];
-    let mut run = run;
-    for i in 0..n {
-        let base = walk::list_row(run, i, tables, &mut queue, &mut answers, &mut out, 0);
-        if !write_lines(stdout, stderr, &out, base.lines.ok()) {
-            return;
-        }
-        if matches!(base.answer, Answer::Ended(_)) {
-            return;
-        }
-        run = base.run;
+    // The line of what is wrong before the run.
+    fn list_fault(&self, e: InputError) {
+        let mut out = [0; 128];
+        let end = lines::put_fault(&mut out, 0, e.number(), e.text(), e.ahead());
+        let _ = self.write_lines(&out, end);
     }
-}
 
-// The listing of texts that were read, with nothing wrong.
-fn list_read(
-    stdout: &impl Print,
-    stderr: &impl Print,
-    read: Read,
-    bytes: &[u8],
-    ends: &[usize],
-    memory: &Memory,
-)
-    requires { FineIn (texts_of bytes.now ends.now) read memory.now }
-{
-    let tables = memory.tables(read, bytes, ends);
-    let run = walk::begin(read, tables);
-    list_bases(stdout, stderr, run, read.bases, tables);
-}
+    // The lines of n bases, until the run ends.
+    fn list_bases(&self, run: Run, n: usize, tables: Tables)
+        requires { Bases tables.names.text.now tables.names.from.now tables.names.to.now (cols_of tables.bases) n }
+    {
+        let mut queue = [[0; 4]; 1024];
+        let mut answers = [[0; 2]; 1024];
+        let mut out = [0; 131072];
+        let mut run = run;
+        for i in 0..n {
+            let base = walk::list_row(run, i, tables, &mut queue, &mut answers, &mut out, 0);
+            let written = self.write_lines(&out, base.lines.ok());
+            if written.is_none() || matches!(base.answer, Answer::Ended(_)) {
+                return;
+            }
+            run = base.run;
+        }
+    }
 
-// The listing of texts, which stand one behind the other and end where it is told.
-pub fn list_texts(stdout: &impl Print, stderr: &impl Print, bytes: &[u8], ends: &[usize]) {
-    let mut memory = Memory::new();
-    match memory.read(bytes, ends) {
-        Ok(read) => list_read(stdout, stderr, read, bytes, ends, &memory),
-        Err(e) => list_fault(stdout, stderr, e.number(), e.text(), e.ahead()),
+    // The listing of texts that were read, with nothing wrong.
+    fn list_read(&self, read: Read, texts: Texts, memory: &Memory)
+        requires { FineIn (texts_of texts.bytes.now texts.ends.now) read memory.now }
+    {
+        let tables = memory.tables(read, texts);
+        let run = walk::begin(read, tables);
+        self.list_bases(run, read.bases, tables);
+    }
+
+    // The listing of texts.
+    pub fn list_texts(&self, texts: Texts) {
+        let mut memory = Memory::new();
+        match memory.read(texts) {
+            Ok(read) => self.list_read(read, texts, &memory),
+            Err(e) => self.list_fault(e),
+        }
     }
 }

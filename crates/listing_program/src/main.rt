@@ -8,6 +8,8 @@ mod listing;
 
 ghost use Rattle.std.specs.Prelude.{◌≤◌};
 
+use crate::listing::Output;
+use inputs::Texts;
 use std::env::FillError;
 use std::io::Print;
 use std::rt::Env;
@@ -50,9 +52,17 @@ fn main(rt: HostRuntime) {
     }
     let mut bytes = [0u8; 65537];
     let mut ends = [0usize; 11];
-    let texts = (words - 1).min(11);
-    let read = files::read_files(&rt, &stderr, &mut bytes, &mut ends[..texts]);
+    let count = (words - 1).min(11);
+    let read = files::read_files(&rt, &stderr, &mut bytes, &mut ends[..count]);
     if let Some(n) = read {
-        listing::list_texts(&stdout, &stderr, &bytes[..n], &ends[..texts]);
+        let texts = Texts {
+            bytes: &bytes[..n],
+            ends: &ends[..count],
+        };
+        let output = Output {
+            stdout: &stdout,
+            stderr: &stderr,
+        };
+        output.list_texts(texts);
     }
 }

@@ -1,13 +1,11 @@
 -- The lines of an answer, read from the answer rows as the call leaves them, are those of the reply.
-use Prim.Native.Nat.{ℕ, ◌≤◌}
+use Prim.Native.Nat.{ℕ}
 use mathlib.Core.Path.{◌≡◌, refl, sym, ap, ◌∙◌}
 use mathlib.Core.List.{List, [], ◌∷◌, ◌++◌, map}
-use native.Mathlib.Omega.{arith}
-use lib.ListN.{length, get_or, drop, length-append, length-map}
+use lib.ListN.{length, get_or, drop}
 use Rattle.basics.specs.Build.{build}
 use Rattle.basics.proofs.EdgeLaws.{build_shift}
 use Rattle.rules.specs.declared.Base.{Base}
-use Rattle.rules.specs.Offered.{Offer}
 use Rattle.rules.specs.declared.Answer.{Answer}
 use Rattle.rules.specs.Rows.{Record}
 use Rattle.rules.specs.Call.{Reply, found, refused, ended, answer_of, column}
@@ -26,7 +24,7 @@ use Rattle.runs.specs.Comes.{given_of}
 use Rattle.replies.specs.declared.Listed.{Listed}
 use Rattle.replies.specs.Lines.{row_line, lines_of}
 use Rattle.replies.specs.List.{Lists}
-use Rattle.replies.specs.Source.{source, answer_lines, Backs}
+use Rattle.replies.specs.Source.{source, answer_lines}
 
 -- the first answer rows are the records', whatever stands behind them
 rows_map : (g : ℕ → ℕ → List ℕ) (hits : List Record) (old : List (List ℕ))
@@ -38,18 +36,6 @@ rows_map g (h ∷ hits) old =
     let at : ℕ → List ℕ = λ k. g (get_or (get_or (map answer_row hits ++ old) k []) 0 0) (get_or (get_or (map answer_row hits ++ old) k []) 1 0) in
     ap (λ (l : List (List ℕ)). g h.stream.0 h.row ∷ l) (sym (build_shift f at (length hits) 0 (λ j p q. refl)) ∙ rows_map g hits old)
 
--- there are as many answer rows as records
-rows_length : (hits : List Record) (o : Offer) (old : List (List ℕ)) → length hits ≤ length (column answer_row (found hits o) old)
-rows_length hits o old = omega (arith, length-append (map answer_row hits) (drop (length hits) old), length-map hits answer_row)
-
-module _ (start stop from : List ℕ) (old : List (List ℕ)) {a : Answer} {new : List (List ℕ)} where
-  backs_by : (t : Reply) → a ≡ answer_of t → new ≡ column answer_row t old → Backs (source start stop from new) a
-  backs_by (found hits o) e p n u f =
-      let k : n ≡ length hits = cc in
-      omega (arith, rows_length hits o old, ap length p)
-  backs_by (refused x) e p n u f = let z : ◌≡◌ {A = ℕ} 0 1 = cc in absurd (omega arith)
-  backs_by (ended x) e p n u f = let z : ◌≡◌ {A = ℕ} 0 1 = cc in absurd (omega arith)
-
 module _ (s : Cols) (from name : List ℕ) (row : ℕ) (b : Base) (old : List (List ℕ)) {a : Answer} {new : List (List ℕ)} where
   lines_by : (t : Reply) → a ≡ answer_of t → new ≡ column answer_row t old → answer_lines (source s.start s.stop from new) name row b a ≡ lines_of s from name row b t
   lines_by (found hits o) e p = rw (e, p) (ap (λ (l : List (List ℕ)). line_b name b.start b.stop (length hits) ∷ l) (rows_map (row_line s.start s.stop from) hits (drop (length hits) old)))
@@ -59,10 +45,6 @@ module _ (s : Cols) (from name : List ℕ) (row : ℕ) (b : Base) (old : List (L
 -- ---- the call
 
 module _ {s : Cols} {lengths : List ℕ} {r : Run} {b : Base} {l l' : Lent} {g : Given} (w : Gives s lengths r b l g l') where
-  -- as many answer rows are lent as the answer counts
-  pub reply_backs : (from : List ℕ) → Backs (source s.start s.stop from l'.answers) g.answer
-  reply_backs from = backs_by s.start s.stop from l.answers (given_of s lengths r b l).reply w.settles.answer w.settles.answers
-
   pub reply_lists : {x : Result ℕ Cut} (name : List ℕ) (row : ℕ) (out : List ℕ) (at : ℕ) (out' : List ℕ)
       → Lays out at (answer_lines (source s.start s.stop r.from l'.answers) name row b g.answer) x out'
       → Lists s lengths r b row name l out at (record { run = g.run; answer = g.answer; lines = x }) l' out'

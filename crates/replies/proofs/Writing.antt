@@ -1,6 +1,6 @@
 -- The lines of the answer rows, one after the other: those that are left give the same.
 use Prim.Native.Nat.{ℕ, ◌+◌, ◌-◌, ◌≤◌, ◌<◌}
-use mathlib.Core.Path.{◌≡◌, refl, ◌∙◌}
+use mathlib.Core.Path.{◌≡◌, ◌∙◌}
 use mathlib.Core.List.{List}
 use native.Mathlib.Omega.{arith}
 use lib.ListN.{length, get_or}
@@ -27,11 +27,6 @@ pub record Writing (t : Source) (n : ℕ) (old : List ℕ) (at : ℕ) (out : Lis
   pub kept : length out ≡ length old
   pub inside : place ≤ length out
   pub left : {r : Result ℕ Cut} {new : List ℕ} → Lays out place (build (line_at t) (n - i) i) r new → Lays old at (row_lines t n) r new
-
-pub writing_start : (t : Source) (n : ℕ) (old : List ℕ) (at : ℕ) → at ≤ length old → Writing t n old at old at 0
-writing_start t n old at h =
-    let e : n - 0 ≡ n = omega arith in
-    record { few = omega arith; kept = refl; inside = h; left = λ w. rw e at w }
 
 module _ {t : Source} {n : ℕ} {old : List ℕ} {at : ℕ} {out : List ℕ} {place i : ℕ} (w : Writing t n old at out place i) where
   pub writing_line : {p : ℕ} (c : Cut) {put : Option ℕ} {new : List ℕ} → i < n → Puts out place (line_at t i) put new → ok_or put c ≡ Ok p → Writing t n old at new p (i + 1)

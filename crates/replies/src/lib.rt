@@ -1,4 +1,5 @@
-// A base is given to a run, and its lines are written to a lent buffer.
+// A base is given to a run, and its lines are written to a lent buffer. The buffer and the place in it stay two parameters: of a struct that holds a
+// lent slice, each clause would have to say whose slice it still holds.
 #![tactic(auto)]
 
 ghost use Rattle.std.specs.Prelude.{◌≡◌, [], ◌∷◌, ◌+◌, ◌≤◌, length, get_or};
@@ -152,11 +153,10 @@ pub fn list_base(
         (lent queue.new answers.new)
         out.new }
 {
-    let from = run.from;
     let given = sweep::give(run, entry.base, columns, lengths, queue, answers);
     let rows = Rows {
         columns,
-        from: &from,
+        from: &run.from,
         answers,
     };
     Listed {

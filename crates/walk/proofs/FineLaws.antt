@@ -38,9 +38,6 @@ module _ {t : Texts} {r : Read} {from to len : List ℕ} {b s : Cols} (f : Fine 
   pub names_to : r.names ≤ length to
   names_to = omega (arith, f.columns.names.few, f.rooms.names_to)
 
-  pub names_len : r.names ≤ length len
-  names_len = omega (arith, f.columns.names.few, f.rooms.lengths)
-
 module _ (bytes ends : List ℕ) {r : Read} {from to len : List ℕ} {b s : Cols} (f : Fine (texts_of bytes ends) r from to len b s) where
   sized : sized_by (length bytes) ends ≡ true
   sized = passed (sized_by (length bytes) ends) (sym (texts_sizes bytes ends) ∙ fine_sizes (texts_of bytes ends) f.fine)

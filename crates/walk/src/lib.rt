@@ -16,7 +16,7 @@ ghost use Rattle.walk.specs.Memory.{IsEmpty, ReadsTo, FineIn, Stands};
 
 use fields::NameList;
 use heads::Columns;
-use inputs::{InputError, Read};
+use inputs::{InputError, Read, Texts};
 use replies::{Entry, Listed};
 use rules::{Base, Chrom, Settings};
 use runs::Run;
@@ -63,13 +63,12 @@ impl Memory {
         }
     }
 
-    // Reads all texts, and says what is wrong before the run. Given are the texts one behind the other and where each ends.
-    pub fn read(&mut self, bytes: &[u8], ends: &[usize]) -> Result<Read, InputError>
-        ensures { ReadsTo (texts_of bytes.now ends.now) result self.new }
+    // Reads all texts, and says what is wrong before the run.
+    pub fn read(&mut self, texts: Texts) -> Result<Read, InputError>
+        ensures { ReadsTo (texts_of texts.entry.bytes.now texts.entry.ends.now) result self.new }
     {
         inputs::read_texts(
-            bytes,
-            ends,
+            texts,
             &mut self.from,
             &mut self.to,
             &mut self.lengths,
@@ -83,13 +82,13 @@ impl Memory {
     }
 
     // The tables of texts that were read, with nothing wrong.
-    pub fn tables<'a>(&'a self, read: Read, bytes: &'a [u8], ends: &[usize]) -> Tables<'a>
-        requires { FineIn (texts_of bytes.now ends.now) read self.now }
-        ensures { Stands bytes.now ends.now read self.now result }
+    pub fn tables<'a>(&'a self, read: Read, texts: Texts<'a>) -> Tables<'a>
+        requires { FineIn (texts_of texts.bytes.now texts.ends.now) read self.now }
+        ensures { Stands texts.entry.bytes.now texts.entry.ends.now read self.now result }
     {
         let n = read.names;
         let names = NameList {
-            text: &bytes[..ends[0]],
+            text: &texts.bytes[..texts.ends[0]],
             from: &self.from[..n],
             to: &self.to[..n],
         };
@@ -112,7 +111,8 @@ impl Memory {
     }
 }
 
-// The run of texts that were read, with nothing wrong.
+// The run of texts that were read, with nothing wrong. A caller may lend more names than were read, so those that were are taken. Where no run
+// begins, which texts with nothing wrong exclude, it is the run of no streams.
 pub fn begin(read: Read, tables: Tables) -> Run
     requires { (read.names ≤ length tables.names.from.now) × (read.names ≤ length tables.names.to.now) }
     ensures { result ≡ kept_of (start_of (plan_of read tables.entry.names.text.now tables.entry.names.from.now tables.entry.names.to.now (cols_of tables.entry.rows))) }
@@ -129,13 +129,11 @@ pub fn begin(read: Read, tables: Tables) -> Run
         chroms: n,
         room: 1024,
     };
-    match Run::start(fixed, places, read.to, names, tables.rows) {
-        Ok(run) => run,
-        Err(_) => Run::none(),
-    }
+    Run::start(fixed, places, read.to, names, tables.rows).unwrap_or(Run::none())
 }
 
-// Base number i is given to the run, and its lines are written.
+// Base number i is given to the run, and its lines are written. The lent slices stay parameters by themselves: of a struct that holds them, each
+// clause would have to say whose slices it still holds.
 pub fn list_row(
     run: Run,
     i: usize,
@@ -154,8 +152,12 @@ pub fn list_row(
         (lent queue.new answers.new)
         out.new }
 {
-    let bases = tables.bases;
-    let names = tables.names;
+    let Tables {
+        names,
+        lengths,
+        bases,
+        rows,
+    } = tables;
     let c = bases.chrom[i];
     let first = replies::place_at(names.from, c);
     let end = replies::place_at(names.to, c);
@@ -168,14 +170,5 @@ pub fn list_row(
         row: i as u64,
         name: &names.text[first..end],
     };
-    replies::list_base(
-        run,
-        entry,
-        tables.rows,
-        tables.lengths,
-        queue,
-        answers,
-        out,
-        at,
-    )
+    replies::list_base(run, entry, rows, lengths, queue, answers, out, at)
 }

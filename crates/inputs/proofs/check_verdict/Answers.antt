@@ -1,5 +1,5 @@
 -- `inputs::check_verdict` meets its contract. Assumes nothing.
-use Rattle.std.proofs.Common.{sym, ◌∙◌, ap}
+use Rattle.std.proofs.Common.{ap}
 use Rattle.std.proofs.lemmas.Result.{err_from_is_err_and}
 use Rattle.inputs.specs.Read.{check_verdict}
 use Rattle.inputs.proofs.check_verdict.Goals as goal

@@ -5,4 +5,4 @@ use Rattle.fields.specs.Names.{listed}
 use Rattle.inputs.proofs.read_streams.Given as goal
 
 abbrev pub invariant-loop-k : goal.invariant-loop-k
-invariant-loop-k l = Streaming (listed l.names) (stream_texts l.bytes l.ends) (cols l.chrom l.start l.stop) l.verdict l.to l.k
+invariant-loop-k l = Streaming (listed l.names) (stream_texts l.texts.bytes.now l.texts.ends.now) (cols l.chrom l.start l.stop) l.verdict l.to l.k

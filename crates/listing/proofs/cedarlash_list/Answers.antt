@@ -3,4 +3,4 @@ use Rattle.listing.proofs.Written.{told_written}
 use Rattle.listing.proofs.cedarlash_list.Goals as goal
 
 pub returns : goal.returns
-returns c = told_written c.list_texts.ensures c.told.ensures
+returns c = told_written c.list_texts.ensures c.into.ensures

@@ -13,8 +13,8 @@ begin-run-requires c =
 pub list_bases-requires : goal.list_bases-requires
 list_bases-requires c =
     let t = c.tables-tables.ensures in
-    (stands_bases c.requires t, tables_come c.args.bytes.now c.args.ends.now c.requires t c.begin-run.ensures _ refl, refl)
+    (stands_bases c.requires t, tables_come c.args.texts.bytes.now c.args.texts.ends.now c.requires t c.begin-run.ensures _ refl, refl)
 
 pub returns : goal.returns
 returns c =
-    tables_listed c.args.bytes.now c.args.ends.now c.requires c.tables-tables.ensures c.begin-run.ensures _ c.list_bases.ensures
+    tables_listed c.args.texts.bytes.now c.args.texts.ends.now c.requires c.tables-tables.ensures c.begin-run.ensures _ c.list_bases.ensures
