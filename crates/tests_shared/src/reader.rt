@@ -1,17 +1,24 @@
 // A text is read, and the numbers in it.
 ghost use Rattle.std.specs.Prelude.{◌≡◌, ◌<◌, ◌≤◌, ◌↔◌, ◌⊎◌, length, take, slice_index, IfOk, IfSome, OnSome, IsTrue};
 
-use std::alloc::Global;
 use std::io;
 use std::io::Read;
 
-// The bytes of an input, of more than 65,536 the first so many.
-pub fn read_text<R: Read + Drop>(alloc: Global, input: R) -> io::Result<Vec<u8>>
-    ensures { IfOk result (λ text. IfSome (R.remaining input) (λ bytes. text.items ≡ take 65536 bytes)) }
+// Reads an input to lent memory, up to the end of either: the bytes that were read. There is no heap in this repository: a read tells how far it
+// came.
+pub fn read_text<'a, R: Read>(input: &mut R, memory: &'a mut [u8]) -> io::Result<&'a [u8]>
+    ensures room { IfOk result (λ text. length text.now ≤ length memory.old) }
+    ensures bytes { IfOk result (λ text. IfSome (R.remaining input.old) (λ bytes. text.now ≡ take (length memory.old) bytes)) }
 {
-    let mut text = Vec::new(alloc);
-    input.take(65536).read_to_end(&mut text)?;
-    Ok(text)
+    let mut done = 0;
+    while done < memory.len() {
+        let n = input.read(&mut memory[done..])?;
+        if n == 0 {
+            return Ok(&memory[..done]);
+        }
+        done += n;
+    }
+    Ok(memory)
 }
 
 // How many digits a text begins with.
@@ -87,8 +94,9 @@ mod tests {
 
     #[test]
     fn a_text_is_read(rt: HostRuntime) -> Result<(), Fail> {
-        let text = read_text(rt.alloc(), b"s 0\nr 0 5 9\n".as_slice())?;
-        assert_eq!(rt; text.as_slice(), b"s 0\nr 0 5 9\n".as_slice());
+        let mut memory = [0; 16];
+        let text = read_text(&mut b"s 0\nr 0 5 9\n".as_slice(), &mut memory)?;
+        assert_eq!(rt; text, b"s 0\nr 0 5 9\n".as_slice());
         Ok(())
     }
 }
