@@ -41,7 +41,8 @@ fn value_of(digits: &[u8]) -> Option<u64> {
     Some(value)
 }
 
-// A place in a text, at which it is read.
+// A place in a text, at which it is read. Programs that go by lines give it the whole text and count the line's place beside: a number that can't be
+// read takes the place to the start of the text, not of the line, and reading goes on there.
 #[derive(Clone, Copy)]
 pub struct Reader<'a> {
     pub text: &'a [u8],
@@ -49,8 +50,8 @@ pub struct Reader<'a> {
 }
 
 impl Reader<'_> {
-    // The number that stands at the place, where one does; the place is then behind it and one space. Where a letter follows, or the number has
-    // more than 64 bits, there is none, and the place is the text's start.
+    // The number that stands at the place, where one does; the place is then behind it and one space. Where a byte beyond `9`
+    // follows, as a letter is, or the number has more than 64 bits, there is none, and the place is the text's start.
     pub fn number(&mut self) -> Option<u64>
         ensures same { self.new.text.now ≡ self.old.text.now }
         ensures ahead { OnSome result (self.old.at < self.new.at) }
@@ -67,7 +68,7 @@ impl Reader<'_> {
         if n == 0 { None } else { value }
     }
 
-    // Whether this number stands at the place, which is read as above.
+    // Reads a number as above: `Some` where it is this one, `None` where it is another or can't be read.
     pub fn matches(&mut self, value: u64) -> Option<()>
         ensures same { self.new.text.now ≡ self.old.text.now }
         ensures ahead { OnSome result (self.old.at < self.new.at) }
