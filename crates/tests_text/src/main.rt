@@ -135,7 +135,7 @@ fn samples(rt: &impl Print, all: &[u8]) -> io::Result<()> {
     Ok(())
 }
 
-// Lists of two lines, the first of which is fine; the others are refused.
+// Lists of two lines: the first and the last are fine.
 fn two_names(rt: &impl Print) -> io::Result<()> {
     check_two(rt, "two names", b"one\ntwo\n")?;
     check_two(rt, "a name twice", b"one\none\n")?;
