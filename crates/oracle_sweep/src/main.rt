@@ -53,9 +53,10 @@ fn replay_all(text: &[u8]) -> Tally {
 }
 
 fn main(rt: HostRuntime) -> io::Result<()> {
-    let file = fs::open(&rt, "sweep.txt")?;
-    let text = tests_shared::read_text(rt.alloc(), file)?;
-    let tally = replay_all(&text);
+    let mut file = fs::open(&rt, "sweep.txt")?;
+    let mut memory = [0u8; 65536];
+    let text = tests_shared::read_text(&mut file, &mut memory)?;
+    let tally = replay_all(text);
     println!(rt; "jobs {}", tally.jobs)?;
     println!(rt; "bases {}", tally.bases)?;
     println!(rt; "records {}", tally.records)?;
