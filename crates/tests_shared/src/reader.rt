@@ -14,11 +14,11 @@ pub fn read_text<'a, R: Read>(input: &mut R, memory: &'a mut [u8]) -> io::Result
     while done < memory.len() {
         let n = input.read(&mut memory[done..])?;
         if n == 0 {
-            return Ok(&memory[..done]);
+            break;
         }
         done += n;
     }
-    Ok(memory)
+    Ok(&memory[..done])
 }
 
 // How many digits a text begins with.
