@@ -5,7 +5,7 @@
 
 use parts::{Choice, Span};
 use std::{fs, io};
-use tests_shared::{Reader, at};
+use tests_shared::{Reader, at, each_job};
 
 // The columns of fragments: of each its base part and where its pieces begin and end in the pieces' columns, and these. (tests_parts' own, `Lent`, has
 // fewer slots, and says why they are two types.)
@@ -140,14 +140,10 @@ impl Tally {
 // The tally of a list: a comment changes nothing.
 fn replay_all(text: &[u8]) -> Tally {
     let mut tally = Tally::default();
-    let mut at: usize = 0;
-    for (i, line) in text.split_inclusive(|b| *b == b'\n').enumerate() {
-        if line.first() != Some(&b'#') {
-            let same = replay(Reader { text, at }).is_some();
-            tally.count(i as u64 + 1, same);
-        }
-        at = at.saturating_add(line.len());
-    }
+    each_job(
+        text,
+        |line, reader| tally.count(line, replay(reader).is_some()),
+    );
     tally
 }
 

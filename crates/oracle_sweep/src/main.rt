@@ -9,7 +9,7 @@ mod order;
 
 use job::Score;
 use std::{fs, io};
-use tests_shared::Reader;
+use tests_shared::each_job;
 
 // How the replay stands: jobs, bases, records, jobs that differ, and the line of the first that does. (oracle_parts' own has no bases and records:
 // one type for both would count what one of them has none of.)
@@ -41,14 +41,10 @@ impl Tally {
 // The tally of a list: a comment changes nothing.
 fn replay_all(text: &[u8]) -> Tally {
     let mut tally = Tally::default();
-    let mut at: usize = 0;
-    for (i, line) in text.split_inclusive(|b| *b == b'\n').enumerate() {
-        if line.first() != Some(&b'#') {
-            let score = job::replay(Reader { text, at }).unwrap_or_default();
-            tally.count(i as u64 + 1, score);
-        }
-        at = at.saturating_add(line.len());
-    }
+    each_job(
+        text,
+        |line, reader| tally.count(line, job::replay(reader).unwrap_or_default()),
+    );
     tally
 }
 
