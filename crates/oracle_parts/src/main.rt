@@ -5,9 +5,10 @@
 
 use parts::{Choice, Span};
 use std::{fs, io};
-use tests_shared::{Reader, at};
+use tests_shared::{Reader, at, each_job};
 
-// The columns of fragments: of each its base part and where its pieces begin and end in the pieces' columns, and these.
+// The columns of fragments: of each its base part and where its pieces begin and end in the pieces' columns, and these. (tests_parts' own, `Lent`, has
+// fewer slots, and says why they are two types.)
 #[derive(Clone, Copy, Default)]
 struct Fragments {
     present: [u64; 32],
@@ -20,14 +21,14 @@ struct Fragments {
 }
 
 impl Fragments {
-    // Whether the base part of fragment k is the one recorded.
+    // `Some` where the base part of fragment k is the one recorded.
     fn matches_part(&self, k: usize, reader: &mut Reader) -> Option<()> {
         reader.matches(at(&self.present, k))?;
         reader.matches(at(&self.bstart, k))?;
         reader.matches(at(&self.bstop, k))
     }
 
-    // Whether the pieces of fragment k, their count ahead, are those recorded.
+    // `Some` where the pieces of fragment k, their count ahead, are those recorded.
     fn matches_pieces(&self, k: usize, reader: &mut Reader) -> Option<()> {
         let first: u64 = at(&self.first, k);
         let end: u64 = at(&self.end, k);
@@ -39,7 +40,7 @@ impl Fragments {
         Some(())
     }
 
-    // Whether the first n fragments are those recorded, up to the line's end.
+    // `Some` where the first n fragments are those recorded, up to the line's end.
     fn matches_all(&self, n: usize, reader: &mut Reader) -> Option<()> {
         reader.matches(n as u64)?;
         for k in 0..n {
@@ -50,18 +51,11 @@ impl Fragments {
     }
 }
 
-// n records, into two columns; a start that can't be read is 0.
-fn read_records(
-    n: usize,
-    starts: &mut [u64],
-    stops: &mut [u64],
-    reader: &mut Reader,
-) -> Option<()> {
-    for i in 0..n {
-        let start = reader.number().unwrap_or_default();
-        let stop = reader.number()?;
-        *starts.get_mut(i)? = start;
-        *stops.get_mut(i)? = stop;
+// A record for each slot of two columns; a start that can't be read is 0.
+fn read_records(starts: &mut [u64], stops: &mut [u64], reader: &mut Reader) -> Option<()> {
+    for (start, stop) in starts.iter_mut().zip(stops) {
+        *start = reader.number().unwrap_or_default();
+        *stop = reader.number()?;
     }
     Some(())
 }
@@ -77,7 +71,7 @@ fn choice(i: u64) -> Choice {
     }
 }
 
-// Whether the fragments of a base and its records are those recorded.
+// `Some` where the fragments of a base and its records are those recorded.
 fn replay_records(
     a: Choice,
     b: Choice,
@@ -104,28 +98,21 @@ fn replay_records(
     f.matches_all(answer.ok()?.fragments, reader)
 }
 
-// Whether the job that stands at a place has the fragments recorded with it. What can't be read ahead of the count is 0.
+// `Some` where the job that stands at a place has the fragments recorded with it. What can't be read ahead of the count is 0.
 fn replay(mut reader: Reader) -> Option<()> {
     let a = reader.number().unwrap_or_default();
     let b = reader.number().unwrap_or_default();
     let start = reader.number().unwrap_or_default();
     let stop = reader.number().unwrap_or_default();
     let n = reader.number()? as usize;
-    if 16 < n {
-        return None;
-    }
+    // There is no heap in this repository: a job of more records than there are slots differs.
     let mut starts = [0; 16];
     let mut stops = [0; 16];
-    read_records(n, &mut starts, &mut stops, &mut reader)?;
+    let starts = starts.get_mut(..n)?;
+    let stops = stops.get_mut(..n)?;
+    read_records(starts, stops, &mut reader)?;
     let base = Span { start, stop };
-    replay_records(
-        choice(a),
-        choice(b),
-        base,
-        &starts[..n],
-        &stops[..n],
-        &mut reader,
-    )
+    replay_records(choice(a), choice(b), base, starts, stops, &mut reader)
 }
 
 // How the replay stands: jobs, differences, and the line of the first that differs.
@@ -153,25 +140,22 @@ impl Tally {
 // The tally of a list: a comment changes nothing.
 fn replay_all(text: &[u8]) -> Tally {
     let mut tally = Tally::default();
-    let mut at: usize = 0;
-    for (i, line) in text.split_inclusive(|b| *b == b'\n').enumerate() {
-        if line.first() != Some(&b'#') {
-            let same = replay(Reader { text, at }).is_some();
-            tally.count(i as u64 + 1, same);
-        }
-        at = at.saturating_add(line.len());
-    }
+    each_job(
+        text,
+        |line, reader| tally.count(line, replay(reader).is_some()),
+    );
     tally
 }
 
 fn main(rt: HostRuntime) -> io::Result<()> {
     let path = "parts.txt";
-    let file = match fs::open(&rt, path) {
+    let mut file = match fs::open(&rt, path) {
         Ok(file) => file,
         Err(e) => return eprintln!(rt; "{path}: {e}"),
     };
-    let text = tests_shared::read_text(rt.alloc(), file)?;
-    let tally = replay_all(&text);
+    let mut memory = [0u8; 65536];
+    let text = tests_shared::read_text(&mut file, &mut memory)?;
+    let tally = replay_all(text);
     println!(rt; "bytes {}", text.len())?;
     println!(rt; "jobs {}", tally.jobs)?;
     println!(rt; "differences {}", tally.differ)?;

@@ -4,10 +4,10 @@ use fields::NameList;
 use heads::Columns;
 use rules::{Answer, Base, Chrom, Settings};
 use runs::Run;
-use tests_shared::{Reader, at, front, name_ends, name_starts, name_text};
+use tests_shared::{Reader, at, front, name_ends, name_starts, name_text, part_mut};
 
-// What a job comes to: how many bases and records it has, and whether all are those of the list. Its counts are summed where they are not, too, so
-// it is no Option.
+// What a job comes to: how many bases and records it has, and whether all are those of the list. A job whose line goes on behind its last base
+// differs, and its counts are summed all the same: so `same` stands beside them.
 #[derive(Clone, Copy, Default)]
 pub struct Score {
     pub bases: u64,
@@ -15,21 +15,25 @@ pub struct Score {
     pub same: bool,
 }
 
-// Rows that were read, as columns of chromosomes, starts and stops, and how many there are.
+// How many rows, or bases, a job may have. There is no heap in this repository: a job of more differs.
+pub const ROWS: usize = 64;
+
+// Rows that were read, as columns of chromosomes, starts and stops, and how many there are. (tests_sweep's own are lent in a length each.)
 #[derive(Drop)]
 struct Rows {
-    chrom: [u64; 64],
-    start: [u64; 64],
-    stop: [u64; 64],
+    chrom: [u64; ROWS],
+    start: [u64; ROWS],
+    stop: [u64; ROWS],
     count: usize,
 }
 
 impl Rows {
+    // No row.
     fn new() -> Rows {
         Rows {
-            chrom: [0; 64],
-            start: [0; 64],
-            stop: [0; 64],
+            chrom: [0; ROWS],
+            start: [0; ROWS],
+            stop: [0; ROWS],
             count: 0,
         }
     }
@@ -41,7 +45,7 @@ impl Rows {
             let start = reader.number().unwrap_or_default();
             let stop = reader.number()?;
             let k = self.count;
-            if 64 <= k {
+            if ROWS <= k {
                 return None;
             }
             self.chrom[k] = chrom;
@@ -101,8 +105,9 @@ fn give(
     let Answer::Found(n, _) = given.answer else {
         return None;
     };
-    order::sort(n, &mut answers, &run.from, rows.start);
-    order::matches_rows(n, &answers, reader)?;
+    let found = part_mut(&mut answers, 0, n);
+    order::sort(found, &run.from, rows.start);
+    order::matches_rows(found, reader)?;
     Some((given.run, n as u64))
 }
 

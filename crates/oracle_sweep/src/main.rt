@@ -9,7 +9,7 @@ mod order;
 
 use job::Score;
 use std::{fs, io};
-use tests_shared::Reader;
+use tests_shared::each_job;
 
 // How the replay stands: jobs, bases, records, jobs that differ, and the line of the first that does. (oracle_parts' own has no bases and records:
 // one type for both would count what one of them has none of.)
@@ -41,21 +41,18 @@ impl Tally {
 // The tally of a list: a comment changes nothing.
 fn replay_all(text: &[u8]) -> Tally {
     let mut tally = Tally::default();
-    let mut at: usize = 0;
-    for (i, line) in text.split_inclusive(|b| *b == b'\n').enumerate() {
-        if line.first() != Some(&b'#') {
-            let score = job::replay(Reader { text, at }).unwrap_or_default();
-            tally.count(i as u64 + 1, score);
-        }
-        at = at.saturating_add(line.len());
-    }
+    each_job(
+        text,
+        |line, reader| tally.count(line, job::replay(reader).unwrap_or_default()),
+    );
     tally
 }
 
 fn main(rt: HostRuntime) -> io::Result<()> {
-    let file = fs::open(&rt, "sweep.txt")?;
-    let text = tests_shared::read_text(rt.alloc(), file)?;
-    let tally = replay_all(&text);
+    let mut file = fs::open(&rt, "sweep.txt")?;
+    let mut memory = [0u8; 65536];
+    let text = tests_shared::read_text(&mut file, &mut memory)?;
+    let tally = replay_all(text);
     println!(rt; "jobs {}", tally.jobs)?;
     println!(rt; "bases {}", tally.bases)?;
     println!(rt; "records {}", tally.records)?;

@@ -2,10 +2,9 @@
 // A pair's line: its two choices, how many fragments and pieces, then each fragment: its base part, or `-`, and its pieces.
 #![tactic(auto)]
 
-ghost use Rattle.std.specs.Prelude.{◌≤◌};
-
-use parts::{Choice, Span};
+use parts::{Choice, Refusal, Span, Written};
 use std::io;
+use tests_shared::{at, part_mut};
 
 const CHOICES: [Choice; 5] = [
     Choice::None,
@@ -15,7 +14,25 @@ const CHOICES: [Choice; 5] = [
     Choice::Inverse,
 ];
 
-// The columns that are lent for fragments and for pieces: 7 stands in each place before.
+// A base and its records, in two columns that need not be of one length.
+#[derive(Clone, Copy)]
+struct Given<'a> {
+    base: Span,
+    starts: &'a [u64],
+    stops: &'a [u64],
+}
+
+// A base with these records.
+fn records<'a>(base: Span, starts: &'a [u64], stops: &'a [u64]) -> Given<'a> {
+    Given {
+        base,
+        starts,
+        stops,
+    }
+}
+
+// The columns that are lent for fragments and for pieces: 7 stands in each place before. (oracle_parts' own has more slots and starts from zeros: one
+// type for both would take two sizes and what stands there first.)
 #[derive(Clone, Copy)]
 struct Lent {
     present: [u64; 8],
@@ -28,6 +45,7 @@ struct Lent {
 }
 
 impl Lent {
+    // The columns before a call.
     fn new() -> Lent {
         Lent {
             present: [7; 8],
@@ -39,20 +57,40 @@ impl Lent {
             pstop: [7; 16],
         }
     }
+
+    // The fragments of a pair are written, with so many slots for fragments and for pieces, or all there are.
+    fn fill(
+        &mut self,
+        [a, b]: [Choice; 2],
+        given: Given,
+        slots: usize,
+        room: usize,
+    ) -> Result<Written, Refusal> {
+        parts::fragments(
+            a,
+            b,
+            given.base,
+            given.starts,
+            given.stops,
+            part_mut(&mut self.present, 0, slots),
+            part_mut(&mut self.bstart, 0, slots),
+            part_mut(&mut self.bstop, 0, slots),
+            part_mut(&mut self.from, 0, slots),
+            part_mut(&mut self.to, 0, slots),
+            part_mut(&mut self.pstart, 0, room),
+            part_mut(&mut self.pstop, 0, room),
+        )
+    }
 }
 
+// From a start up to a stop.
 fn span(start: u64, stop: u64) -> Span {
     Span { start, stop }
 }
 
-// A start and a stop, as 5-12, with a space ahead.
+// Two numbers, as 5-12, with a space ahead: a start and a stop, or what stands in two columns that make no span, so it is no `Display` of `Span`.
 fn say_span(rt: &impl Print, start: u64, stop: u64) -> io::Result<()> {
     print!(rt; " {start}-{stop}")
-}
-
-// The number at a place, 0 past the end: two columns need not be of one length.
-fn at(s: &[u64], i: usize) -> u64 {
-    s.get(i).copied().unwrap_or(0)
 }
 
 // The spans of two columns from one place up to another.
@@ -92,29 +130,9 @@ fn say_fragments(rt: &impl Print, n: usize, lent: &Lent) -> io::Result<()> {
 }
 
 // One pair: its answer, and its fragments as a caller reads them back.
-fn say_pair(
-    rt: &impl Print,
-    a: Choice,
-    b: Choice,
-    base: Span,
-    starts: &[u64],
-    stops: &[u64],
-) -> io::Result<()> {
+fn say_pair(rt: &impl Print, [a, b]: [Choice; 2], given: Given) -> io::Result<()> {
     let mut lent = Lent::new();
-    let r = parts::fragments(
-        a,
-        b,
-        base,
-        starts,
-        stops,
-        &mut lent.present,
-        &mut lent.bstart,
-        &mut lent.bstop,
-        &mut lent.from,
-        &mut lent.to,
-        &mut lent.pstart,
-        &mut lent.pstop,
-    );
+    let r = lent.fill([a, b], given, 8, 16);
     print!(rt; "{a:?} {b:?} ")?;
     match r {
         Ok(written) => {
@@ -132,70 +150,47 @@ fn say_pair(
 }
 
 // A base and its records.
-fn say_given(rt: &impl Print, base: Span, starts: &[u64], stops: &[u64]) -> io::Result<()> {
+fn say_given(rt: &impl Print, given: Given) -> io::Result<()> {
     print!(rt; "base")?;
-    say_span(rt, base.start, base.stop)?;
+    say_span(rt, given.base.start, given.base.stop)?;
     print!(rt; " records")?;
-    say_spans(rt, starts, stops, 0, starts.len())?;
+    say_spans(rt, given.starts, given.stops, 0, given.starts.len())?;
     println!(rt)
 }
 
 // The pairs of one choice for the base.
-fn say_row(
-    rt: &impl Print,
-    a: Choice,
-    base: Span,
-    starts: &[u64],
-    stops: &[u64],
-) -> io::Result<()> {
+fn say_row(rt: &impl Print, a: Choice, given: Given) -> io::Result<()> {
     for b in CHOICES {
-        say_pair(rt, a, b, base, starts, stops)?;
+        say_pair(rt, [a, b], given)?;
     }
     Ok(())
 }
 
 // A base and its records, and each pair.
-fn say_job(rt: &impl Print, base: Span, starts: &[u64], stops: &[u64]) -> io::Result<()> {
-    say_given(rt, base, starts, stops)?;
+fn say_job(rt: &impl Print, given: Given) -> io::Result<()> {
+    say_given(rt, given)?;
     for a in CHOICES {
-        say_row(rt, a, base, starts, stops)?;
+        say_row(rt, a, given)?;
     }
     Ok(())
 }
 
 // A base and its records, and one pair.
-fn say_call(rt: &impl Print, base: Span, starts: &[u64], stops: &[u64]) -> io::Result<()> {
-    say_given(rt, base, starts, stops)?;
-    say_pair(rt, Choice::Whole, Choice::Piece, base, starts, stops)
+fn say_call(rt: &impl Print, given: Given) -> io::Result<()> {
+    say_given(rt, given)?;
+    say_pair(rt, [Choice::Whole, Choice::Piece], given)
 }
 
 // The answer to a call with few slots, and what then stands in the first of each column.
 fn say_slots(
     rt: &impl Print,
-    a: Choice,
-    b: Choice,
-    starts: &[u64],
-    stops: &[u64],
+    pair: [Choice; 2],
+    given: Given,
     slots: usize,
     room: usize,
-) -> io::Result<()>
-    requires { (slots ≤ 4) × (room ≤ 4) }
-{
+) -> io::Result<()> {
     let mut lent = Lent::new();
-    let r = parts::fragments(
-        a,
-        b,
-        span(10, 20),
-        starts,
-        stops,
-        &mut lent.present[..slots],
-        &mut lent.bstart[..slots],
-        &mut lent.bstop[..slots],
-        &mut lent.from[..slots],
-        &mut lent.to[..slots],
-        &mut lent.pstart[..room],
-        &mut lent.pstop[..room],
-    );
+    let r = lent.fill(pair, given, slots, room);
     let number = parts::number(r);
     print!(rt; "X {number}")?;
     say_span(rt, lent.present[0], lent.bstart[0])?;
@@ -207,54 +202,61 @@ fn say_slots(
 
 // The scope document's cases, and the one of its change request 3, with that document's walk.
 fn say_cases(rt: &impl Print) -> io::Result<()> {
-    say_job(rt, span(10, 20), &[5, 8], &[12, 25])?;
-    say_job(rt, span(0, 20), &[2, 8], &[5, 10])?;
-    say_job(rt, span(0, 20), &[2, 4], &[15, 6])
+    say_job(rt, records(span(10, 20), &[5, 8], &[12, 25]))?;
+    say_job(rt, records(span(0, 20), &[2, 8], &[5, 10]))?;
+    say_job(rt, records(span(0, 20), &[2, 4], &[15, 6]))
 }
 
 // No records; one that is the base; one that holds it; records and bases of length zero; the largest values.
 fn say_edges(rt: &impl Print) -> io::Result<()> {
     const LAST: u64 = u64::MAX;
-    say_job(rt, span(10, 20), &[], &[])?;
-    say_job(rt, span(10, 20), &[10], &[20])?;
-    say_job(rt, span(10, 20), &[3], &[30])?;
-    say_job(rt, span(3, 8), &[5, 6, 6], &[5, 6, 9])?;
-    say_job(rt, span(5, 5), &[3], &[8])?;
-    say_job(rt, span(5, 5), &[], &[])?;
+    say_job(rt, records(span(10, 20), &[], &[]))?;
+    say_job(rt, records(span(10, 20), &[10], &[20]))?;
+    say_job(rt, records(span(10, 20), &[3], &[30]))?;
+    say_job(rt, records(span(3, 8), &[5, 6, 6], &[5, 6, 9]))?;
+    say_job(rt, records(span(5, 5), &[3], &[8]))?;
+    say_job(rt, records(span(5, 5), &[], &[]))?;
     say_job(
         rt,
-        span(LAST - 2, LAST),
-        &[LAST - 15, LAST - 1],
-        &[LAST - 1, LAST],
+        records(
+            span(LAST - 2, LAST),
+            &[LAST - 15, LAST - 1],
+            &[LAST - 1, LAST],
+        ),
     )?;
-    say_job(rt, span(0, LAST), &[0, LAST - 1], &[1, LAST - 1])
+    say_job(rt, records(span(0, LAST), &[0, LAST - 1], &[1, LAST - 1]))
 }
 
 // Calls that are refused, one fault each, then two faults at a time; the last is not refused.
 fn say_refusals(rt: &impl Print) -> io::Result<()> {
     let base = span(10, 20);
     let backwards = span(20, 10);
-    say_call(rt, base, &[0], &[10])?;
-    say_call(rt, base, &[20], &[30])?;
-    say_call(rt, base, &[12], &[11])?;
-    say_call(rt, base, &[12, 11], &[15, 16])?;
-    say_call(rt, span(5, 5), &[5], &[5])?;
-    say_call(rt, backwards, &[12], &[15])?;
-    say_call(rt, base, &[12, 13], &[15])?;
-    say_call(rt, backwards, &[12, 13], &[15])?;
-    say_call(rt, backwards, &[30], &[25])?;
-    say_call(rt, base, &[12], &[15])
+    say_call(rt, records(base, &[0], &[10]))?;
+    say_call(rt, records(base, &[20], &[30]))?;
+    say_call(rt, records(base, &[12], &[11]))?;
+    say_call(rt, records(base, &[12, 11], &[15, 16]))?;
+    say_call(rt, records(span(5, 5), &[5], &[5]))?;
+    say_call(rt, records(backwards, &[12], &[15]))?;
+    say_call(rt, records(base, &[12, 13], &[15]))?;
+    say_call(rt, records(backwards, &[12, 13], &[15]))?;
+    say_call(rt, records(backwards, &[30], &[25]))?;
+    say_call(rt, records(base, &[12], &[15]))
 }
 
 // Too few slots for the fragments, then for the pieces, then enough of both: the columns held 7 before.
 fn say_room(rt: &impl Print) -> io::Result<()> {
-    let starts = [5, 8];
-    let stops = [12, 25];
-    say_slots(rt, Choice::Whole, Choice::Inverse, &starts, &stops, 1, 3)?;
-    say_slots(rt, Choice::Whole, Choice::Inverse, &starts, &stops, 2, 2)?;
-    say_slots(rt, Choice::Whole, Choice::Inverse, &starts, &stops, 2, 3)?;
-    say_slots(rt, Choice::Piece, Choice::Whole, &starts, &stops, 2, 2)?;
-    say_slots(rt, Choice::Inverse, Choice::Whole, &[5], &[25], 0, 0)
+    let two = records(span(10, 20), &[5, 8], &[12, 25]);
+    say_slots(rt, [Choice::Whole, Choice::Inverse], two, 1, 3)?;
+    say_slots(rt, [Choice::Whole, Choice::Inverse], two, 2, 2)?;
+    say_slots(rt, [Choice::Whole, Choice::Inverse], two, 2, 3)?;
+    say_slots(rt, [Choice::Piece, Choice::Whole], two, 2, 2)?;
+    say_slots(
+        rt,
+        [Choice::Inverse, Choice::Whole],
+        records(span(10, 20), &[5], &[25]),
+        0,
+        0,
+    )
 }
 
 fn main(rt: HostRuntime) -> io::Result<()> {

@@ -4,7 +4,7 @@
 
 ghost use Rattle.std.specs.Prelude.{◌≡◌, ◌≤◌, ◌<◌, length, IfOk, OnErr};
 ghost use Rattle.queue.specs.Ring.{Fair};
-ghost use Rattle.tests_queue.specs.Ready.{Ready};
+ghost use Rattle.tests_queue.specs.Ready.{GoesOn, Ready};
 
 use queue::{Ring, Slot};
 use rules::{Base, Chrom, Stream};
@@ -81,7 +81,7 @@ fn show_front(rt: &impl Print, front: Option<u64>) -> io::Result<()> {
 // One record is pushed.
 fn push_step(rt: &impl Print, ring: Ring, queue: &mut [[u64; 4]], slot: Slot) -> io::Result<Ring>
     requires { Fair ring queue.old }
-    ensures ok { IfOk result (λ r. Fair r queue.new × (r.room ≡ ring.room)) }
+    ensures ok { IfOk result (λ r. GoesOn ring r queue.new) }
     ensures err { OnErr result (length queue.new ≡ length queue.old) }
 {
     let Some(after) = ring.push(queue, slot) else {
@@ -102,7 +102,7 @@ fn base_step(
     b: Base,
 ) -> io::Result<Ring>
     requires { Ready ring queue.old answers.old }
-    ensures ok { IfOk result (λ r. Fair r queue.new × (r.room ≡ ring.room)) }
+    ensures ok { IfOk result (λ r. GoesOn ring r queue.new) }
     ensures err { OnErr result (length queue.new ≡ length queue.old) }
 {
     let after = ring.clear(queue, b);
@@ -122,7 +122,7 @@ fn play(
     step: Step,
 ) -> io::Result<Ring>
     requires { Ready ring queue.old answers.old }
-    ensures ok { IfOk result (λ r. Fair r queue.new × (r.room ≡ ring.room)) }
+    ensures ok { IfOk result (λ r. GoesOn ring r queue.new) }
     ensures err { OnErr result (length queue.new ≡ length queue.old) }
 {
     print!(rt; "{step}")?;

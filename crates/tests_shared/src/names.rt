@@ -15,6 +15,7 @@ pub fn name_starts() -> [usize; 257] {
     from
 }
 
+// Where they end: `one` and `two` behind three bytes, the others at byte 6 and as many behind it as the number of the name less 1.
 pub fn name_ends() -> [usize; 257] {
     let mut to = [3usize; 257];
     for k in 1..257 {

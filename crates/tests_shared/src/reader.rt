@@ -1,17 +1,24 @@
 // A text is read, and the numbers in it.
 ghost use Rattle.std.specs.Prelude.{◌≡◌, ◌<◌, ◌≤◌, ◌↔◌, ◌⊎◌, length, take, slice_index, IfOk, IfSome, OnSome, IsTrue};
 
-use std::alloc::Global;
 use std::io;
 use std::io::Read;
 
-// The bytes of an input, of more than 65,536 the first so many.
-pub fn read_text<R: Read + Drop>(alloc: Global, input: R) -> io::Result<Vec<u8>>
-    ensures { IfOk result (λ text. IfSome (R.remaining input) (λ bytes. text.items ≡ take 65536 bytes)) }
+// Reads an input to lent memory, up to the end of either: the bytes that were read. There is no heap in this repository: a read tells how far it
+// came.
+pub fn read_text<'a, R: Read>(input: &mut R, memory: &'a mut [u8]) -> io::Result<&'a [u8]>
+    ensures room { IfOk result (λ text. length text.now ≤ length memory.old) }
+    ensures bytes { IfOk result (λ text. IfSome (R.remaining input.old) (λ bytes. text.now ≡ take (length memory.old) bytes)) }
 {
-    let mut text = Vec::new(alloc);
-    input.take(65536).read_to_end(&mut text)?;
-    Ok(text)
+    let mut done = 0;
+    while done < memory.len() {
+        let n = input.read(&mut memory[done..])?;
+        if n == 0 {
+            break;
+        }
+        done += n;
+    }
+    Ok(&memory[..done])
 }
 
 // How many digits a text begins with.
@@ -34,7 +41,8 @@ fn value_of(digits: &[u8]) -> Option<u64> {
     Some(value)
 }
 
-// A place in a text, at which it is read.
+// A place in a text, at which it is read. Programs that go by lines give it the whole text and count the line's place beside: a number that can't be
+// read takes the place to the start of the text, not of the line, and reading goes on there.
 #[derive(Clone, Copy)]
 pub struct Reader<'a> {
     pub text: &'a [u8],
@@ -42,8 +50,8 @@ pub struct Reader<'a> {
 }
 
 impl Reader<'_> {
-    // The number that stands at the place, where one does; the place is then behind it and one space. Where a letter follows, or the number has
-    // more than 64 bits, there is none, and the place is the text's start.
+    // The number that stands at the place, where one does; the place is then behind it and one space. Where a byte beyond `9`
+    // follows, as a letter is, or the number has more than 64 bits, there is none, and the place is the text's start.
     pub fn number(&mut self) -> Option<u64>
         ensures same { self.new.text.now ≡ self.old.text.now }
         ensures ahead { OnSome result (self.old.at < self.new.at) }
@@ -60,7 +68,7 @@ impl Reader<'_> {
         if n == 0 { None } else { value }
     }
 
-    // Whether this number stands at the place, which is read as above.
+    // Reads a number as above: `Some` where it is this one, `None` where it is another or can't be read.
     pub fn matches(&mut self, value: u64) -> Option<()>
         ensures same { self.new.text.now ≡ self.old.text.now }
         ensures ahead { OnSome result (self.old.at < self.new.at) }
@@ -87,8 +95,9 @@ mod tests {
 
     #[test]
     fn a_text_is_read(rt: HostRuntime) -> Result<(), Fail> {
-        let text = read_text(rt.alloc(), b"s 0\nr 0 5 9\n".as_slice())?;
-        assert_eq!(rt; text.as_slice(), b"s 0\nr 0 5 9\n".as_slice());
+        let mut memory = [0; 16];
+        let text = read_text(&mut b"s 0\nr 0 5 9\n".as_slice(), &mut memory)?;
+        assert_eq!(rt; text, b"s 0\nr 0 5 9\n".as_slice());
         Ok(())
     }
 }

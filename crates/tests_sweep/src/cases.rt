@@ -3,13 +3,14 @@ use crate::{Command, QUEUES, SLOTS, given, tamper};
 use heads::Columns;
 use rules::Base;
 use runs::Run;
-use std::io;
+use std::{io, mem};
 use tests_shared::front;
 
 // Where the memory of the second run begins in the queue's slots.
 const SECOND: usize = 65537;
 
-// The streams' rows, as columns.
+// The streams' rows, as columns. Each of them is lent in a length of its own, as a case has it; oracle_sweep's `Rows` lends all three in one, and
+// counts what it holds.
 #[derive(Drop)]
 pub struct Rows {
     pub chrom: [u64; SLOTS],
@@ -24,7 +25,8 @@ pub struct Memory {
     pub queue: [[u64; 4]; QUEUES],
 }
 
-// The streams' ranges in the columns, how many rows are laid, the number of chromosomes, and where one name stands in the text.
+// The streams' ranges in the columns, how many rows are laid, the number of chromosomes, and the name that stands elsewhere, where one does: its
+// number, and where it begins and ends in the text.
 #[derive(Clone, Copy)]
 pub struct Plan {
     pub streams: usize,
@@ -32,13 +34,11 @@ pub struct Plan {
     pub to: [usize; 8],
     pub rows: usize,
     pub chroms: usize,
-    pub odd: usize,
-    pub odd_from: usize,
-    pub odd_to: usize,
+    pub odd: Option<(usize, usize, usize)>,
 }
 
 // A run, and how much is lent to it: chromosomes, starts and stops of the rows, the chromosomes' lengths, the queue's slots, the answer rows,
-// where the names begin and end.
+// where the names begin and end. The command `w SLICE N` names the slices by these numbers, so they are no fields.
 #[derive(Clone, Copy)]
 pub struct Side {
     pub run: Run,
@@ -93,9 +93,7 @@ impl Plan {
             to: [0; 8],
             rows: 0,
             chroms: 2,
-            odd: 257,
-            odd_from: 0,
-            odd_to: 0,
+            odd: None,
         }
     }
 
@@ -131,9 +129,7 @@ impl Plan {
 
     // A name stands elsewhere.
     fn set_name(&mut self, k: usize, from: usize, to: usize) {
-        self.odd = k;
-        self.odd_from = from;
-        self.odd_to = to;
+        self.odd = Some((k, from, to));
     }
 
     // As many slots as a room asks, and one answer row more.
@@ -164,9 +160,7 @@ impl Bench {
 
     // The other run and its memory.
     fn turn(&mut self) {
-        let here = self.here;
-        self.here = self.there;
-        self.there = here;
+        mem::swap(&mut self.here, &mut self.there);
         self.memory = if self.memory == SECOND { 0 } else { SECOND };
     }
 

@@ -2,6 +2,7 @@
 ghost use Rattle.std.specs.Prelude.{◌≤◌};
 
 use crate::SLOTS;
+use crate::tamper::Field;
 use rules::{Base, Chrom};
 use runs::Mark;
 use tests_shared::Reader;
@@ -22,12 +23,12 @@ pub enum Command {
     Give(Base),
     Turn,
     Slot(usize, [u64; 4]),
-    Field(u64, usize, u64),
+    Field(Field, usize, u64),
     Mark(Mark),
     Remark,
 }
 
-// Less than a slice can hold, so that one more fits.
+// A number that is less than the slots of a column, or the most that is: one more fits in each slice.
 fn small(x: u64) -> usize
     ensures { result ≤ 65537 }
 {
@@ -48,8 +49,8 @@ impl Command {
     // The command of a letter, with the numbers that stand behind it.
     pub fn read(letter: u8, mut numbers: Reader) -> Command {
         let mut read = [0; 5];
-        for k in 0..5 {
-            read[k] = numbers.number().unwrap_or_default();
+        for x in &mut read {
+            *x = numbers.number().unwrap_or_default();
         }
         let [a, b, c, d, e] = read;
         let row = Base {
@@ -71,7 +72,7 @@ impl Command {
             b'b' => Command::Give(row),
             b'o' => Command::Turn,
             b'q' => Command::Slot(small(a), [b, c, d, e]),
-            b'x' => Command::Field(a, b as usize, c),
+            b'x' => Command::Field(Field::of(a), b as usize, c),
             b'a' => Command::Mark(mark_of(1, [a, b, c])),
             b'z' => Command::Mark(mark_of(a, [b, c, d])),
             _ => Command::Remark,

@@ -17,8 +17,8 @@ fn show_pair(rt: &impl Print, [stream, row]: [u64; 2]) -> io::Result<()> {
 
 // The n answer rows, of more than sixteen those and the last.
 fn show_rows(rt: &impl Print, n: usize, answers: &[[u64; 2]]) -> io::Result<()> {
-    for i in 0..n.min(16) {
-        show_pair(rt, at(answers, i))?;
+    for row in front(answers, n.min(16)) {
+        show_pair(rt, *row)?;
     }
     if 16 < n {
         print!(rt; " ..")?;
@@ -47,13 +47,9 @@ fn show_end(rt: &impl Print, e: End) -> io::Result<()> {
 
 // How many streams and how many row numbers are as they were in the answer rows behind the first n, of those that were lent.
 fn show_kept(rt: &impl Print, n: usize, lent: usize, answers: &[[u64; 2]]) -> io::Result<()> {
-    let mut streams: u64 = 0;
-    let mut rows: u64 = 0;
-    for i in n..lent {
-        let [stream, row] = at(answers, i);
-        streams = streams.saturating_add(u64::from(stream == MARK));
-        rows = rows.saturating_add(u64::from(row == MARK));
-    }
+    let behind = front(answers, lent).get(n..).unwrap_or(&[]);
+    let streams = behind.iter().filter(|[stream, _]| *stream == MARK).count();
+    let rows = behind.iter().filter(|[_, row]| *row == MARK).count();
     print!(rt; ", kept {streams}/{rows}")
 }
 
@@ -104,9 +100,11 @@ pub fn begin(rt: &impl Print, bench: &Bench, room: usize, rows: &Rows) -> io::Re
     let text = name_text();
     let mut from = name_starts();
     let mut to = name_ends();
-    if plan.odd < 257 {
-        from[plan.odd] = plan.odd_from;
-        to[plan.odd] = plan.odd_to;
+    if let Some((k, start, stop)) = plan.odd
+        && k < 257
+    {
+        from[k] = start;
+        to[k] = stop;
     }
     let fixed = Settings {
         streams: plan.streams,

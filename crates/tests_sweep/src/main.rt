@@ -32,9 +32,10 @@ use command::Command;
 use std::io;
 use tests_shared::Reader;
 
-// How many slots the columns have, and the queue, which holds the memory of two runs.
+// How many slots a column has.
 pub const SLOTS: usize = 65538;
 
+// How many slots the queues of two runs have together.
 pub const QUEUES: usize = 65601;
 
 // All cases of a text: each line as it stands, but for its end, and what its command got.
@@ -65,6 +66,7 @@ fn play_all(rt: &impl Print, text: &[u8]) -> io::Result<()> {
 }
 
 fn main(rt: HostRuntime) -> io::Result<()> {
-    let text = tests_shared::read_text(rt.alloc(), rt.stdin())?;
-    play_all(&rt, &text)
+    let mut memory = [0u8; 65536];
+    let text = tests_shared::read_text(&mut rt.stdin(), &mut memory)?;
+    play_all(&rt, text)
 }

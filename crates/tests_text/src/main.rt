@@ -3,7 +3,6 @@
 #![tactic(auto)]
 
 use fields::{NameList, ReadError};
-use rules::Unbegun;
 use std::fmt::Display;
 use std::io;
 
@@ -81,8 +80,7 @@ fn uneven(rt: &impl Print) -> io::Result<()> {
 fn check(rt: &impl Print, label: &str, list: NameList) -> io::Result<()> {
     let number = match chroms::check_list(list) {
         Ok(()) => 0,
-        Err(Unbegun::Sizes) => 1,
-        Err(Unbegun::Names) => 2,
+        Err(x) => x.number(),
     };
     println!(rt; "check {label}: {number}")
 }
@@ -137,7 +135,7 @@ fn samples(rt: &impl Print, all: &[u8]) -> io::Result<()> {
     Ok(())
 }
 
-// Lists of two lines that are and are not fine.
+// Lists of two lines: the first and the last are fine.
 fn two_names(rt: &impl Print) -> io::Result<()> {
     check_two(rt, "two names", b"one\ntwo\n")?;
     check_two(rt, "a name twice", b"one\none\n")?;
@@ -155,7 +153,7 @@ fn check_long(rt: &impl Print, label: &str, from: &[usize], to: &[usize]) -> io:
     check(rt, label, list)
 }
 
-// Long names, and columns that are none.
+// Long names, names that aren't within the text, and columns of different lengths or of no slot.
 fn sizes(rt: &impl Print) -> io::Result<()> {
     check_long(rt, "255 bytes", &[0], &[255])?;
     check_long(rt, "256 bytes", &[0], &[256])?;
@@ -214,8 +212,9 @@ fn other_lists(rt: &impl Print) -> io::Result<()> {
 }
 
 fn main(rt: HostRuntime) -> io::Result<()> {
-    let text = tests_shared::read_text(rt.alloc(), rt.stdin())?;
-    samples(&rt, &text)?;
+    let mut memory = [0u8; 65536];
+    let text = tests_shared::read_text(&mut rt.stdin(), &mut memory)?;
+    samples(&rt, text)?;
     uneven(&rt)?;
     two_names(&rt)?;
     sizes(&rt)?;
