@@ -184,3 +184,11 @@ module _ (q : List (List ℕ)) (ended : List ℕ) (behind : ℕ → List Record)
   -- the least head is the one that the merge takes next
   pub least_pick : least_in q ended n ≡ best_of (pick ahead (build left n 0))
   least_pick = let z : n - 0 ≡ n = omega arith in rw z at (best_from_lem 8 0 (omega arith))
+
+-- the best of the places from k on, and place k - 1 ahead of them
+pub one_back : (q : List (List ℕ)) (ended : List ℕ) (n k : ℕ) → 0 < k → k ≤ 8 → {b r : Option Best} → b ≡ best_from q ended n (8 - k) k
+    → r ≡ better_of (record { 0 = k - 1 }) n (get_or q (k - 1) []) (is_ended (get_or ended (k - 1) 0)) b → r ≡ best_from q ended n (8 - (k - 1)) (k - 1)
+one_back q ended n k low high {b} {r} p e =
+    let i : 8 - (k - 1) ≡ suc (8 - k) = omega arith in
+    let j : suc (k - 1) ≡ k = omega arith in
+    rw (i, j) (rw p at e)

@@ -17,8 +17,8 @@ pub struct Best {
     pub row: u64,
 }
 
-// Whether a head is before four numbers, by chromosome, start and stop. Not by comparing tuples, nor in fewer tests: that costs eight instructions a
-// record more than the bar of `docs/PERFORMANCE.md` leaves.
+// Whether a head is before four numbers, by chromosome, start and stop. Not by comparing tuples: of eight streams a record then costs 294 instructions,
+// of which the bar of `docs/PERFORMANCE.md` leaves 286; by these tests it costs 254.
 #[tactic(auto, unfolding(crate::specs::Least::sooner))]
 fn is_sooner(b: Best, x: [u64; 4]) -> bool
     ensures { result ≡ sooner b x }
@@ -80,24 +80,20 @@ fn better(k: Stream, n: u64, x: [u64; 4], mark: u64, later: Option<Best>) -> Opt
     }
 }
 
-// The stream of the least head of n streams, the earlier one's of equal heads. All eight places are looked at.
+// The stream of the least head of n streams, the earlier one's of equal heads. All eight places are looked at, from the last one back.
 fn least_of(q: [[u64; 4]; 8], ended: [u64; 8], n: usize) -> Option<Stream>
     requires { n ≤ 8 }
     ensures { result ≡ stream_of (least_in q ended n) }
 {
-    let m = n as u64;
-    let seven = better(Stream(7), m, q[7], ended[7], None);
-    let six = better(Stream(6), m, q[6], ended[6], seven);
-    let five = better(Stream(5), m, q[5], ended[5], six);
-    let four = better(Stream(4), m, q[4], ended[4], five);
-    let three = better(Stream(3), m, q[3], ended[3], four);
-    let two = better(Stream(2), m, q[2], ended[2], three);
-    let one = better(Stream(1), m, q[1], ended[1], two);
-    let best = better(Stream(0), m, q[0], ended[0], one)?;
-    Some(best.stream)
+    let mut best = None;
+    for k in (0..8).rev() {
+        best = better(Stream(k as u64), n as u64, q[k], ended[k], best);
+    }
+    Some(best?.stream)
 }
 
-// The same of one stream or two: two places are looked at. It stands beside the one of eight places for its speed: most jobs have one stream or two.
+// The same of one stream or two: two places are looked at. It stands beside the one of eight places for its speed: with one function for both a record
+// cost 248 instructions instead of 150 (docs/DECISIONS.md, "Heads").
 fn least_of_two(q: [[u64; 4]; 8], ended: [u64; 8], n: usize) -> Option<Stream>
     requires { (0 < n) × (n ≤ 2) }
     ensures { result ≡ stream_of (least_in q ended n) }
