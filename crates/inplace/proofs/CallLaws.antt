@@ -19,4 +19,3 @@ begins_so x from to text names_from names_to s {n} {begins} {ends} {t} et en ef 
     et ∙ ap (λ (m : ℕ). start_of (plan (record { streams = m; chroms = x.chroms; room = x.room }) begins ends text names_from names_to s)) en ∙
     ap (λ (l : List ℕ). start_of (plan (record { streams = streams_in x.streams (length from) (length to); chroms = x.chroms; room = x.room }) l ends text names_from names_to s)) ef ∙
     ap (λ (l : List ℕ). start_of (plan (record { streams = streams_in x.streams (length from) (length to); chroms = x.chroms; room = x.room }) (eight_of from) l text names_from names_to s)) eo
-
