@@ -1,8 +1,11 @@
 // The choices for the base (A) and for the records (B), and the table of their twenty-five pairs: the fragment rule of each.
 #![tactic(auto)]
 
-ghost use Rattle.std.specs.Prelude.{◌≡◌};
-ghost use Rattle.fragment_rules.specs.Rules.{rule_of};
+ghost use Rattle.std.specs.Prelude.{◌≡◌, [], get_or};
+ghost use Rattle.fragment_rules.specs.Rules.{rule_of, place_of};
+ghost use Rattle.fragment_rules.specs.Table.{entry, table};
+ghost use Rattle.fragment_rules.specs.declared.Parting.TheVariants.{Bare};
+ghost use Rattle.fragment_rules.specs.declared.Giving.TheVariants.{Nothing};
 
 // What to report of the base (A), or of a record (B).
 #[derive(Clone, Copy, Debug, PartialEq, Eq)]
@@ -83,9 +86,11 @@ const RULES: [[Rule; 5]; 5] = [
     ],
 ];
 
-// The rule of a pair.
+// The rule of a pair: the entry at its places, in the source's table and in the one that the computed test ran over.
+#[tactic(auto, unfolding(crate::specs::Table::table))]
 pub fn rule_of(a: Choice, b: Choice) -> Rule
-    ensures { result ≡ rule_of a b }
+    ensures rule { result ≡ rule_of a b }
+    ensures listed { result ≡ get_or (get_or table (place_of a) []) (place_of b) (entry Bare Nothing) }
 {
     RULES[a as usize][b as usize]
 }

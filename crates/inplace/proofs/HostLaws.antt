@@ -54,6 +54,10 @@ told_number (Found n o) = refl
 told_number (Refused x) = refl
 told_number (Ended e) = refl
 
+-- none is told where nothing stopped the bases
+pub told_none : (stopped_of None).refusal ≡ 0
+told_none = refl
+
 -- ---- memory of zeros
 
 abbrev pub zeros : Run

@@ -90,15 +90,11 @@ pub extern "C" fn cedarlash_begin(
         to: names_to,
     };
     let columns = Columns { chrom, start, stop };
-    match begin_run(settings, from, to, names, columns) {
-        Ok(begun) => {
-            *run = begun;
-            0
-        }
-        Err(x) => {
-            *run = Run::none();
-            x.number()
-        }
+    let begun = begin_run(settings, from, to, names, columns);
+    *run = Run::kept(begun);
+    match begun {
+        Ok(_) => 0,
+        Err(x) => x.number(),
     }
 }
 

@@ -1,5 +1,5 @@
 -- All texts are read: what is wrong before the run, and what the columns hold.
-use mathlib.Core.Path.{◌≡◌, sym, ap, subst, ◌∙◌}
+use mathlib.Core.Path.{◌≡◌, refl, sym, ap, subst, ◌∙◌}
 use mathlib.Core.Bool.{Bool, true, false, cond}
 use mathlib.Core.Option.{Option, none, some}
 use mathlib.Core.List.{List, map}
@@ -11,17 +11,18 @@ use Rattle.basics.specs.Build.{build}
 use Rattle.rules.specs.Streams.{else}
 use Rattle.fields.specs.Names.{part, number_in, names}
 use Rattle.fields.specs.Table.{rows_of}
-use Rattle.std.specs.Prelude.{Result, Ok, Err, IfOk}
+use Rattle.std.specs.Prelude.{Result, Ok, Err, replicate}
 use Rattle.fields.specs.declared.ReadError.{ReadError}
 use Rattle.rows.specs.Row.{row_of}
 use Rattle.heads.specs.View.{Cols}
 use Rattle.std.specs.Result.{result_and}
 use Rattle.inputs.specs.Texts.{Texts, Fault, fault, rows_most, names_in, rows_in, base_from, bases_of, streams_in, found_fault, list_fault, streams_fault, sizes_fault, fault_of}
 use Rattle.inputs.specs.Parted.{stream_texts, texts_of, sized_by}
-use Rattle.inputs.specs.Read.{fault_by, verdict_at, NamesRead, read_in, base_in, PartRead, StreamsRead, Rooms, Reads}
+use Rattle.inputs.specs.Read.{fault_by, verdict_at, NamesRead, read_in, base_in, PartRead, StreamsRead, Rooms, Reads, read_by, wrong_by}
 use Rattle.inputs.specs.declared.InputError.{InputError}
 use Rattle.inputs.specs.declared.InputError.TheVariants.{Sizes}
 use Rattle.inputs.specs.declared.Read.{Read}
+use Rattle.inputs.specs.declared.Misread.{Misread}
 use Rattle.inputs.specs.declared.ListRead.{ListRead}
 use Rattle.inputs.specs.declared.Streams.{Streams}
 use Rattle.inputs.proofs.Columns.{map_build}
@@ -30,12 +31,13 @@ use Rattle.inputs.proofs.Faults.{first_else, text_count, read_fault}
 
 -- the texts whose sizes are not right: nothing is read
 pub texts_refused : (bytes ends from to len : List ℕ) (b s : Cols) → sized_by (length bytes) ends ≡ false → Rooms from to len b s →
-    Reads (texts_of bytes ends) (Err Sizes) from to len b s
+    Reads (texts_of bytes ends) (Err (record { error = Sizes; read = record { names = 0; bases = 0; streams = 0; to = replicate 8 0 } })) from to len b s
 unfolding fault_of
 texts_refused bytes ends from to len b s e rooms =
     let sizes : sizes_fault (texts_of bytes ends) ≡ some (fault 1 0 0) = texts_sizes bytes ends ∙ ap (λ (u : Bool). cond u none (some (fault 1 0 0))) e in
     record {
       fault = sym (ap (λ (o : Option Fault). else o (else (list_fault (length (texts_of bytes ends).streams) (texts_of bytes ends).list) (else (found_fault 1 (rows_in (names_in (texts_of bytes ends).list) (texts_of bytes ends).bases)) (streams_fault (names_in (texts_of bytes ends).list) 2 (texts_of bytes ends).streams)))) sizes);
+      eight = refl;
       rooms = rooms;
       columns = λ h. absurd (differ (sym h ∙ sizes));
     }
@@ -131,10 +133,11 @@ module _ (bytes ends from to len : List ℕ) (b₀ b s : Cols) (named : ListRead
     abbrev found : Read
     found = record { names = named.count; bases = n; streams = m; to = st.to }
 
-    -- the answer: what is wrong, or what was read
-    texts_answer : (z : Result Read InputError) → fault_by z ≡ fault_by v → IfOk z (λ u. u ≡ found) → Reads texts z from to len b s
-    texts_answer z wrong_so read_so = record {
+    -- the answer: what was read, and what is wrong, if anything is
+    texts_answer : (z : Result Read Misread) → wrong_by z ≡ fault_by v → read_by z ≡ found → Reads (texts_of bytes ends) z from to len b s
+    texts_answer z wrong_so read_so = subst (λ (t : Texts). Reads t z from to len b s) (sym texts_are) (record {
       fault = wrong_so ∙ wrong;
+      eight = rw (read_so) hs.eight;
       rooms = record {
         names_from = lf;
         names_to = lt;
@@ -146,24 +149,19 @@ module _ (bytes ends from to len : List ℕ) (b₀ b s : Cols) (named : ListRead
         start = hs.start;
         stop = hs.stop;
       };
-      columns = λ h. record {
-        read = found;
-        is = read_so;
-        eight = hs.eight;
-        columns = record {
-          names = hn.columns;
-          few = omega (arith, rows_count, hb.few);
-          bases = base_rows;
-          streams = omega (arith, hm, count);
-          rows = hs.rows ∙ ap (λ (k : List (List ℕ)). streams_in k streams) same;
-          low = hs.low;
-          high = hs.high;
-        };
-      };
-    }
+      columns = λ h. rw (read_so) (record {
+        names = hn.columns;
+        few = omega (arith, rows_count, hb.few);
+        bases = base_rows;
+        streams = omega (arith, hm, count);
+        rows = hs.rows ∙ ap (λ (k : List (List ℕ)). streams_in k streams) same;
+        low = hs.low;
+        high = hs.high;
+      });
+    })
 
-    pub texts_wrong : (e : InputError) → v ≡ Err e → Reads (texts_of bytes ends) (Err e) from to len b s
-    texts_wrong e q = subst (λ (t : Texts). Reads t (Err e) from to len b s) (sym texts_are) (texts_answer (Err e) (sym (ap fault_by q)) tt)
+    pub texts_wrong : (e : InputError) → v ≡ Err e → Reads (texts_of bytes ends) (Err (record { error = e; read = found })) from to len b s
+    texts_wrong e q = texts_answer (Err (record { error = e; read = found })) (sym (ap fault_by q)) refl
 
     pub texts_read : {u : Unit {0}} → v ≡ Ok u → Reads (texts_of bytes ends) (Ok found) from to len b s
-    texts_read q = subst (λ (t : Texts). Reads t (Ok found) from to len b s) (sym texts_are) (texts_answer (Ok found) (sym (ap fault_by q)) (let same_read : found ≡ found = λ i. found in same_read))
+    texts_read q = texts_answer (Ok found) (sym (ap fault_by q)) refl

@@ -1,5 +1,5 @@
 -- What reading the texts gives: what is wrong before the run, and the columns of names, bases and rows.
-use Rattle.std.specs.Prelude.{◌≡◌, true, List, [], ◌∷◌, ℕ, ◌+◌, ◌*◌, ◌≤◌, ◌<◌, length, get_or, take, Result, Ok, Err, IfOk}
+use Rattle.std.specs.Prelude.{◌≡◌, true, List, [], ◌∷◌, ℕ, ◌+◌, ◌*◌, ◌≤◌, ◌<◌, length, get_or, take, Result, Ok, Err}
 use Rattle.std.proofs.Math.Option.{Option, none, some}
 use Rattle.basics.specs.Build.{build}
 use Rattle.rules.specs.declared.Base.{Base}
@@ -19,6 +19,7 @@ use Rattle.inputs.specs.declared.InputError.TheVariants.{Sizes, Names, Malformed
 use Rattle.inputs.specs.declared.ListRead.{ListRead}
 use Rattle.inputs.specs.declared.Streams.{Streams}
 use Rattle.inputs.specs.declared.Read.{Read}
+use Rattle.inputs.specs.declared.Misread.{Misread}
 
 -- ---- what is wrong
 
@@ -135,14 +136,17 @@ pub record Rooms (from to len : List ℕ) (b s : Cols) : Type 0 where
   pub start : length s.start ≡ 8 * rows_most
   pub stop : length s.stop ≡ 8 * rows_most
 
--- what the columns hold of texts whose sizes are right, whatever is wrong with them; where nothing is, this is what the answer says
-pub record Held (t : Texts) (r : Result Read InputError) (from to len : List ℕ) (b s : Cols) : Type 0 where
-  pub read : Read
-  pub is : IfOk r (λ x. x ≡ read)
-  pub eight : length read.to ≡ 8
-  pub columns : Columns t read from to len b s
+-- how much was read, also where something is wrong; and what is wrong
+abbrev pub read_by : Result Read Misread → Read
+read_by (Ok r) = r
+read_by (Err x) = x.read
 
-pub record Reads (t : Texts) (r : Result Read InputError) (from to len : List ℕ) (b s : Cols) : Type 0 where
-  pub fault : fault_by r ≡ fault_of t
+abbrev pub wrong_by : Result Read Misread → Option Fault
+wrong_by (Ok r) = none
+wrong_by (Err x) = some (told x.error)
+
+pub record Reads (t : Texts) (r : Result Read Misread) (from to len : List ℕ) (b s : Cols) : Type 0 where
+  pub fault : wrong_by r ≡ fault_of t
+  pub eight : length (read_by r).to ≡ 8
   pub rooms : Rooms from to len b s
-  pub columns : sizes_fault t ≡ none → Held t r from to len b s
+  pub columns : sizes_fault t ≡ none → Columns t (read_by r) from to len b s

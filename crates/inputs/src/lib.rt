@@ -108,6 +108,13 @@ pub struct Read {
     pub to: [usize; 8],
 }
 
+// Texts with something wrong before the run: what that is, and what was read all the same, since reading goes on behind a fault.
+#[derive(Clone, Copy)]
+pub struct Misread {
+    pub error: InputError,
+    pub read: Read,
+}
+
 // What is wrong with text k, by how its reading ended.
 fn verdict_at(k: u64, r: Result<usize, ReadError>) -> Result<(), InputError>
     ensures { result ≡ verdict_at k r }
@@ -222,7 +229,7 @@ fn read_streams(
     Streams { verdict, to }
 }
 
-// Reads all texts to their columns, and says what is wrong before the run. Lent are columns for the names, for the bases and,
+// Reads all texts to their columns: how much was read, and what is wrong before the run, if anything is. Lent are columns for the names, for the bases and,
 // in eight parts, for the streams' rows. Each column is lent by itself, here and where a part is read: of a struct that holds lent slices, each
 // clause would have to say whose slices it still holds.
 pub fn read_texts(
@@ -236,13 +243,21 @@ pub fn read_texts(
     chrom: &mut [u64],
     start: &mut [u64],
     stop: &mut [u64],
-) -> Result<Read, InputError>
+) -> Result<Read, Misread>
     requires { Rooms from.old to.old len.old (cols bchrom.old bstart.old bstop.old) (cols chrom.old start.old stop.old) }
     ensures { Reads (texts_of texts.entry.bytes.now texts.entry.ends.now) result from.new to.new len.new
         (cols bchrom.new bstart.new bstop.new) (cols chrom.new start.new stop.new) }
 {
     if !is_sized(texts) {
-        return Err(InputError::Sizes);
+        return Err(Misread {
+            error: InputError::Sizes,
+            read: Read {
+                names: 0,
+                bases: 0,
+                streams: 0,
+                to: [0; 8],
+            },
+        });
     }
     let a = texts.ends[0];
     let b = texts.ends[1];
@@ -255,12 +270,15 @@ pub fn read_texts(
     };
     let r = read_part(&texts.bytes[a..b], names, bchrom, bstart, bstop, 0);
     let s = read_streams(texts, names, chrom, start, stop);
-    named.verdict.and(verdict_at(1, r).and(s.verdict))?;
     let to = s.to;
-    Ok(Read {
+    let read = Read {
         names: named.count,
         bases: rows_ahead(r),
         streams: texts.ends.len() - 2,
         to,
-    })
+    };
+    match named.verdict.and(verdict_at(1, r).and(s.verdict)) {
+        Ok(()) => Ok(read),
+        Err(error) => Err(Misread { error, read }),
+    }
 }

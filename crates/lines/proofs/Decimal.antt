@@ -94,6 +94,14 @@ pub places_power : (k n : ℕ) → 10 ^ k ≤ n → n < 10 * 10 ^ k → length (
 places_power k n low high =
     omega (arith, places_beyond k n low, places_within k n (omega (arith, pow-suc 10 k)))
 
+-- and a number lies below the power of 10 that has one digit more
+pub places_above : (n : ℕ) → n < 10 ^ length (decimal n)
+places_above n = go (dec_lt n (10 ^ length (decimal n)))
+  where
+    go : Dec (n < 10 ^ length (decimal n)) → n < 10 ^ length (decimal n)
+    go (yes l) = l
+    go (no l) = absurd (omega (arith, places_beyond (length (decimal n)) n (omega arith)))
+
 -- "1 to 20 digits"
 pub places_few : (n : ℕ) → n ≤ 18446744073709551615 → length (decimal n) ≤ 20
 places_few n h = places_within 19 n (omega arith)

@@ -1,46 +1,58 @@
 -- A number's digits written the last one first: what is left to write gives the same list.
-use Prim.Native.Nat.{ℕ, ◌+◌, ◌-◌, ◌/◌, ◌%◌, ◌≤◌, ◌<◌}
+use Prim.Native.Nat.{ℕ, ◌+◌, ◌-◌, ◌*◌, ◌/◌, ◌%◌, ◌^◌, ◌≤◌, ◌<◌}
 use mathlib.Core.Path.{◌≡◌, refl, sym, ap, ◌∙◌}
 use mathlib.Core.List.{List, [], ◌∷◌, ◌++◌}
 use native.Mathlib.Omega.{arith}
+use native.Mathlib.Nat.{pow-suc}
+use native.Mathlib.Numerals.{add-one}
 use lib.ListN.{length, set, length-set}
 use Rattle.lines.specs.Lines.{digit, decimal}
 use Rattle.lines.specs.Put.{laid}
-use Rattle.lines.proofs.Decimal.{padded, padded_length, padded_last, padded_none, padded_all}
+use Rattle.lines.proofs.Decimal.{padded, padded_length, padded_last, padded_none, padded_all, places_some, places_above}
 use Rattle.lines.proofs.Laying.{laid_none, laid_snoc}
 
--- the digits of n behind the places from i on are written, and those ahead are the last of `rest`
-pub record Spelling (old : List ℕ) (at n : ℕ) (out : List ℕ) (i rest : ℕ) : Type 0 where
+-- the digits of n behind the first k are written, and those are the last k of `rest`, which has no more
+pub record Spelling (old : List ℕ) (at n : ℕ) (out : List ℕ) (k rest : ℕ) : Type 0 where
   pub kept : length out ≡ length old
-  pub low : at ≤ i
-  pub high : i ≤ length old
-  pub left : laid out at (padded (i - at) rest) ≡ laid old at (decimal n)
+  pub some : 0 < k
+  pub room : at + k ≤ length old
+  pub few : rest < 10 ^ k
+  pub left : laid out at (padded k rest) ≡ laid old at (decimal n)
 
-pub spelling_start : (old : List ℕ) (at n : ℕ) → at + length (decimal n) ≤ length old → Spelling old at n old (at + length (decimal n)) n
+pub spelling_start : (old : List ℕ) (at n : ℕ) → at + length (decimal n) ≤ length old → Spelling old at n old (length (decimal n)) n
 spelling_start old at n h =
-    let e : at + length (decimal n) - at ≡ length (decimal n) = omega arith in
-    record { kept = refl; low = omega arith; high = h; left = ap (laid old at) (rw e (padded_all n)) }
+    record { kept = refl; some = omega (arith, places_some n); room = h; few = places_above n; left = ap (laid old at) (padded_all n) }
 
-module _ {old : List ℕ} {at n : ℕ} {out : List ℕ} {i rest : ℕ} (s : Spelling old at n out i rest) where
-  pub spelling_digit : at < i → Spelling old at n (set out (i - 1) (digit (rest % 10))) (i - 1) (rest / 10)
-  spelling_digit h =
-      let k : ℕ = i - 1 - at in
-      let more : i - at ≡ k + 1 = omega arith in
-      let place : at + length (padded k (rest / 10)) ≡ i - 1 = omega (arith, padded_length k (rest / 10)) in
-      let room : at + length (padded k (rest / 10)) < length out = omega (arith, s.kept, s.high) in
-      let last : padded k (rest / 10) ++ (digit (rest % 10) ∷ []) ≡ padded (i - at) rest = rw more (sym (padded_last k rest)) in
+module _ {old : List ℕ} {at n : ℕ} {out : List ℕ} {k rest : ℕ} (s : Spelling old at n out k rest) where
+  -- the last digit of what is left, with j ahead of it
+  last_digit : (j : ℕ) → k ≡ j + 1 → 0 < j → Spelling old at n (set out (at + j) (digit (rest % 10))) j (rest / 10)
+  last_digit j e h =
+      let place : at + length (padded j (rest / 10)) ≡ at + j = omega (arith, padded_length j (rest / 10)) in
+      let room : at + length (padded j (rest / 10)) < length out = omega (arith, s.kept, s.room) in
+      let last : padded j (rest / 10) ++ (digit (rest % 10) ∷ []) ≡ padded k rest = rw e (sym (padded_last j rest)) in
+      let few : rest < 10 ^ j * 10 = rw (e, add-one, pow-suc 10 j) at s.few in
       record {
-        kept = length-set out (i - 1) (digit (rest % 10)) ∙ s.kept;
-        low = omega arith;
-        high = omega (arith, s.high);
+        kept = length-set out (at + j) (digit (rest % 10)) ∙ s.kept;
+        some = h;
+        room = omega (arith, s.room);
+        few = omega (arith, few);
         left =
-            (rw place at (sym (laid_snoc out at (padded k (rest / 10)) (digit (rest % 10)) room)))
+            (rw place at (sym (laid_snoc out at (padded j (rest / 10)) (digit (rest % 10)) room)))
             ∙ ap (laid out at) last
             ∙ s.left;
       }
 
-  pub spelling_done : i ≤ at → out ≡ laid old at (decimal n)
-  spelling_done h =
-      let e : i - at ≡ 0 = omega arith in
-      let none : [] ≡ padded (i - at) rest = rw e (sym (padded_none rest)) in
-      sym (laid_none out at) ∙ ap (laid out at) none ∙ s.left
+  pub spelling_digit : 1 < k → Spelling old at n (set out (at + (k - 1)) (digit (rest % 10))) (k - 1) (rest / 10)
+  spelling_digit h = last_digit (k - 1) (omega arith) (omega arith)
+
+  -- the first digit is what is left
+  pub spelling_first : k ≤ 1 → set out at (digit rest) ≡ laid old at (decimal n)
+  spelling_first h =
+      let e : k ≡ 0 + 1 = omega (arith, s.some) in
+      let few : rest < 10 ^ (0 + 1) = rw e at s.few in
+      let m : rest % 10 ≡ rest = omega (arith, few) in
+      let last : padded k rest ≡ [] ++ (digit rest ∷ []) = rw (e, padded_last 0 rest, padded_none (rest / 10), m) in
+      let p : at + length {A = ℕ} [] ≡ at = omega arith in
+      let put : laid out at ([] ++ (digit rest ∷ [])) ≡ laid (set out at (digit rest)) at [] =
+      rw p at (laid_snoc out at [] (digit rest) (omega (arith, s.kept, s.room, s.some))) in
+      sym (laid_none (set out at (digit rest)) at) ∙ sym put ∙ ap (laid out at) (sym last) ∙ s.left

@@ -11,24 +11,28 @@ ghost use Rattle.lines.specs.Put.{Wrote, Puts};
 #[derive(Clone, Copy)]
 pub struct Cut(pub usize);
 
-// How many digits a number has.
+// How many digits a number has; most are short, and those are told apart by comparisons alone.
 fn places(n: u64) -> usize
     ensures { (result ≡ length (decimal n)) × (result ≤ 20) }
 {
-    match n.checked_ilog10() {
-        Some(k) => k as usize + 1,
-        None => 1,
+    match n {
+        0..=9 => 1,
+        10..=99 => 2,
+        100..=999 => 3,
+        1000..=9999 => 4,
+        _ => n.ilog10() as usize + 1,
     }
 }
 
-// The bytes go to out at a place; the place behind them.
+// The bytes go to out at a place; the place behind them. They are few, and an archive that copies by `copy_from_slice` asks its host for a `memmove`.
 fn put_bytes(out: &mut [u8], at: usize, bytes: &[u8]) -> usize
     requires { at + length bytes.now ≤ length out.old }
     ensures { Wrote out.old at bytes.now result out.new }
 {
-    let end = at + bytes.len();
-    out[at..end].copy_from_slice(bytes);
-    end
+    for (i, b) in bytes.iter().enumerate() {
+        out[at + i] = *b;
+    }
+    at + bytes.len()
 }
 
 // A number's digits go to out at a place, the last one first; the place behind them.
@@ -36,13 +40,14 @@ fn put_decimal(out: &mut [u8], at: usize, n: u64) -> usize
     requires { at + length (decimal n) ≤ length out.old }
     ensures { Wrote out.old at (decimal n) result out.new }
 {
-    let end = at + places(n);
+    let size = places(n);
     let mut rest = n;
-    for i in (at..end).rev() {
-        out[i] = b'0' + (rest % 10) as u8;
+    for k in (1..size).rev() {
+        out[at + k] = b'0' + (rest % 10) as u8;
         rest /= 10;
     }
-    end
+    out[at] = b'0' + rest as u8;
+    at + size
 }
 
 // A tab and a number's digits go to out at a place; the place behind them.
@@ -78,7 +83,9 @@ fn put_fields(out: &mut [u8], at: usize, numbers: &[u64]) -> usize
     place
 }
 
-// A line: its head, a name and its numbers. Where the next line starts; nothing where this one does not fit.
+// A line: its head, a name and its numbers. Where the next line starts; nothing where this one does not fit. Inlined, since each caller's line has so
+// many numbers: without it a line of short numbers takes half as many instructions more.
+#[inline(always)]
 fn put_line(out: &mut [u8], at: usize, head: &[u8], name: &[u8], numbers: &[u64]) -> Option<usize>
     requires { (at ≤ length out.old) × (length head.now ≤ 2) × (length numbers.now ≤ 4) }
     ensures { Puts out.old at (head.now ++ name.now ++ numbered numbers.now ++ (10 ∷ [])) result out.new }

@@ -19,7 +19,7 @@ use Rattle.heads.specs.View.{Cols}
 use Rattle.inputs.specs.Texts.{Texts, Fault, fault, fault_of, names_of, bases_of, job_of}
 use Rattle.inputs.specs.Read.{told, Reads}
 use Rattle.std.specs.Prelude.{Err}
-use Rattle.inputs.specs.declared.InputError.{InputError}
+use Rattle.inputs.specs.declared.Misread.{Misread}
 use Rattle.rules.specs.Job.{answers}
 use Rattle.listing.specs.Listing.{run_lines, unless_fault, listing}
 use Rattle.listing.specs.Run.{told_of}
@@ -28,14 +28,14 @@ use Rattle.listing.specs.declared.Listing.{Listing}
 
 -- ---- the verdict
 
-module _ {t : Texts} {e : InputError} {from to len : List ℕ} {b s : Cols} (h : Reads t (Err e) from to len b s) where
+module _ {t : Texts} {x : Misread} {from to len : List ℕ} {b s : Cols} (h : Reads t (Err x) from to len b s) where
   -- "A fault before the run gives one line"
-  pub reads_fault : {number text ahead : ℕ} {put : Maybe ℕ} {x : Result ℕ Cut} {old new : List ℕ} → number ≡ (told e).number → text ≡ (told e).text → ahead ≡ (told e).ahead → Puts old 0 (line_f number text ahead) put new → x ≡ ok_or put (record { 0 = 0 }) → Lays old 0 (listing t) x new
+  pub reads_fault : {number text ahead : ℕ} {put : Maybe ℕ} {l : Result ℕ Cut} {old new : List ℕ} → number ≡ (told x.error).number → text ≡ (told x.error).text → ahead ≡ (told x.error).ahead → Puts old 0 (line_f number text ahead) put new → l ≡ ok_or put (record { 0 = 0 }) → Lays old 0 (listing t) l new
   unfolding listing
-  reads_fault {number} {text} {ahead} {put} {x} {old} {new} n k m p q =
+  reads_fault {number} {text} {ahead} {put} {l} {old} {new} n k m p q =
       let wrong : fault_of t ≡ some (fault number text ahead) = sym h.fault ∙ rw (n, k, m) in
       let lines : line_f number text ahead ∷ [] ≡ listing t = sym (ap (λ (o : Option Fault). unless_fault o (run_lines (names_of t) 0 (bases_of t) (answers (job_of t) (bases_of t)))) wrong) in
-      subst (λ (ls : List (List ℕ)). Lays old 0 ls x new) lines (subst (λ (y : Result ℕ Cut). Lays old 0 (line_f number text ahead ∷ []) y new) (sym q) (lays_only put (omega arith) p))
+      subst (λ (ls : List (List ℕ)). Lays old 0 ls l new) lines (subst (λ (y : Result ℕ Cut). Lays old 0 (line_f number text ahead ∷ []) y new) (sym q) (lays_only put (omega arith) p))
 
 -- ---- the answer
 

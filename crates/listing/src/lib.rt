@@ -100,7 +100,10 @@ fn list_texts(texts: Texts, out: &mut [u8]) -> Result<usize, Cut>
     let mut memory = Memory::new();
     match memory.read(texts) {
         Ok(read) => list_run(read, texts, &memory, out),
-        Err(e) => lines::put_fault(out, 0, e.number(), e.text(), e.ahead()).ok_or(Cut(0)),
+        Err(x) => {
+            let e = x.error;
+            lines::put_fault(out, 0, e.number(), e.text(), e.ahead()).ok_or(Cut(0))
+        }
     }
 }
 

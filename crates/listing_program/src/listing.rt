@@ -75,7 +75,7 @@ impl<O: Print, E: Print> Output<'_, O, E> {
         let mut memory = Memory::new();
         match memory.read(texts) {
             Ok(read) => self.list_read(read, texts, &memory),
-            Err(e) => self.list_fault(e),
+            Err(x) => self.list_fault(x.error),
         }
     }
 }

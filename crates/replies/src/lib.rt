@@ -153,10 +153,12 @@ pub fn list_base(
         (lent queue.new answers.new)
         out.new }
 {
+    // Where its rows begin is taken from the run ahead of the call, so that the run itself is not copied for it.
+    let from = run.from;
     let given = sweep::give(run, entry.base, columns, lengths, queue, answers);
     let rows = Rows {
         columns,
-        from: &run.from,
+        from: &from,
         answers,
     };
     Listed {

@@ -1,7 +1,7 @@
 // A run begins: 1, then 2.
 ghost use Rattle.std.specs.Prelude.{◌≡◌};
 ghost use Rattle.heads.specs.View.{cols_of};
-ghost use Rattle.runs.specs.Start.{plan, ranged, fresh_run, none_run, start_of};
+ghost use Rattle.runs.specs.Start.{plan, ranged, fresh_run, none_run, start_of, kept_of};
 
 use crate::{Mark, Run};
 use fields::NameList;
@@ -31,7 +31,7 @@ impl Run {
         }
     }
 
-    // The run of no streams, to which every base is refused by 1: what a host keeps where no run begins.
+    // The run of no streams, to which every base is refused by 1.
     pub fn none() -> Run
         ensures { result ≡ none_run }
     {
@@ -41,6 +41,13 @@ impl Run {
             room: 0,
         };
         Run::fresh(fixed, [0; 8], [0; 8])
+    }
+
+    // What is kept of a start: the run that began, or where none did the run of no streams.
+    pub fn kept(begun: Result<Run, Unbegun>) -> Run
+        ensures { result ≡ kept_of begun }
+    {
+        begun.unwrap_or(Run::none())
     }
 
     // Whether there are no more streams than places, and each one's range stands among the lent rows.

@@ -25,10 +25,9 @@ use Rattle.walk.proofs.Beginning.{fine_sizes}
 
 -- nothing is wrong where the answer says so
 pub fine_read : {t : Texts} {r : Read} {from to len : List ℕ} {b s : Cols} → Reads t (Ok r) from to len b s → Fine t r from to len b s
-fine_read {t} {r} h =
+fine_read {t} h =
     let fine : fault_of t ≡ none = sym h.fault in
-    let held = h.columns (fine_sizes t fine) in
-    record { fine = fine; eight = rw (held.is) held.eight; rooms = h.rooms; columns = rw (held.is) held.columns }
+    record { fine = fine; eight = h.eight; rooms = h.rooms; columns = h.columns (fine_sizes t fine) }
 
 module _ {t : Texts} {r : Read} {from to len : List ℕ} {b s : Cols} (f : Fine t r from to len b s) where
   -- the names' columns have as many slots as there are names

@@ -3,7 +3,7 @@ use Rattle.std.specs.Prelude.{◌≡◌, List, ℕ, get_or, take, replicate, Res
 use Rattle.heads.specs.View.{Cols, cols, cols_of}
 use Rattle.inputs.specs.Texts.{Texts}
 use Rattle.inputs.specs.Read.{Reads}
-use Rattle.inputs.specs.declared.InputError.{InputError}
+use Rattle.inputs.specs.declared.Misread.{Misread}
 use Rattle.inputs.specs.declared.Read.{Read}
 use Rattle.walk.specs.Run.{Fine}
 use Rattle.walk.specs.declared.Memory.{Memory}
@@ -23,7 +23,7 @@ abbrev pub rows_in : Memory → Cols
 rows_in m = cols m.chrom m.start m.stop
 
 -- texts are read to the memory; with nothing wrong
-abbrev pub ReadsTo : Texts → Result Read InputError → Memory → Type 0
+abbrev pub ReadsTo : Texts → Result Read Misread → Memory → Type 0
 ReadsTo t r m = Reads t r m.from m.to m.lengths (bases_in m) (rows_in m)
 
 abbrev pub FineIn : Texts → Read → Memory → Type 0

@@ -16,7 +16,7 @@ ghost use Rattle.walk.specs.Memory.{IsEmpty, ReadsTo, FineIn, Stands};
 
 use fields::NameList;
 use heads::Columns;
-use inputs::{InputError, Read, Texts};
+use inputs::{Misread, Read, Texts};
 use replies::{Entry, Listed};
 use rules::{Base, Chrom, Settings};
 use runs::Run;
@@ -63,8 +63,8 @@ impl Memory {
         }
     }
 
-    // Reads all texts, and says what is wrong before the run.
-    pub fn read(&mut self, texts: Texts) -> Result<Read, InputError>
+    // Reads all texts: how much was read, and what is wrong before the run, if anything is.
+    pub fn read(&mut self, texts: Texts) -> Result<Read, Misread>
         ensures { ReadsTo (texts_of texts.entry.bytes.now texts.entry.ends.now) result self.new }
     {
         inputs::read_texts(
@@ -129,7 +129,7 @@ pub fn begin(read: Read, tables: Tables) -> Run
         chroms: n,
         room: 1024,
     };
-    Run::start(fixed, places, read.to, names, tables.rows).unwrap_or(Run::none())
+    Run::kept(Run::start(fixed, places, read.to, names, tables.rows))
 }
 
 // Base number i is given to the run, and its lines are written. The lent slices stay parameters by themselves: of a struct that holds them, each

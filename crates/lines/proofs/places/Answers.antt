@@ -3,10 +3,19 @@ use native.Mathlib.Omega.{arith}
 use Rattle.lines.proofs.Decimal.{places_one, places_power}
 use Rattle.lines.proofs.places.Goals as goal
 
-pub returns-in-Some : goal.returns-in-Some
-returns-in-Some c =
-    let e = c.in-Some.ensures in
-    omega (arith, e.bound, places_power c.in-Some.k c.args.n e.power_le e.next_power_gt)
+pub returns-in-0-to-9 : goal.returns-in-0-to-9
+returns-in-0-to-9 c = omega (arith, places_one c.args.n (omega arith))
 
-pub returns-in-None : goal.returns-in-None
-returns-in-None c = omega (arith, places_one c.args.n (omega (arith, c.in-None.ensures.none)))
+pub returns-in-10-to-99 : goal.returns-in-10-to-99
+returns-in-10-to-99 c = omega (arith, places_power 1 c.args.n (omega arith) (omega arith))
+
+pub returns-in-100-to-999 : goal.returns-in-100-to-999
+returns-in-100-to-999 c = omega (arith, places_power 2 c.args.n (omega arith) (omega arith))
+
+pub returns-in-1000-to-9999 : goal.returns-in-1000-to-9999
+returns-in-1000-to-9999 c = omega (arith, places_power 3 c.args.n (omega arith) (omega arith))
+
+pub returns-in_default : goal.returns-in_default
+returns-in_default c =
+    let e = c.ilog10.ensures in
+    omega (arith, e.bound, places_power c.ilog10.result c.args.n e.power_le e.next_power_gt)

@@ -17,11 +17,11 @@ loop-k-init c =
 
 pub overflow_add-free : goal.overflow_add-free
 overflow_add-free c =
-    omega (arith, c.told-answers, more_place (record { passing = c.loop-k.invariant.passing; below = c.loop-k-test.true; enough = c.if-answers-free.false }) c.base_at-b.ensures c.step-a.ensures.steps (omega (arith, c.step-a.auto)) (omega (arith, c.step-a.auto)) _ _ c.in-Found.is)
+    omega (arith, c.told-answers, more_place (record { passing = c.loop-k.invariant.passing; below = c.loop-k-test.true; enough = omega (arith, c.if-answers-free.false) }) c.base_at-b.ensures c.step-a.ensures.steps (omega (arith, c.step-a.auto)) (omega (arith, c.step-a.auto)) _ _ c.in-Found.is)
 
 pub loop-k-preserved : goal.loop-k-preserved
 loop-k-preserved c = record {
-  passing = goes_on (record { passing = c.loop-k.invariant.passing; below = c.loop-k-test.true; enough = c.if-answers-free.false }) c.base_at-b.ensures c.step-a.ensures.steps (omega (arith, c.step-a.auto)) (omega (arith, c.step-a.auto)) _ _ c.in-Found.is _ c.from-mark.ensures;
+  passing = goes_on (record { passing = c.loop-k.invariant.passing; below = c.loop-k-test.true; enough = omega (arith, c.if-answers-free.false) }) c.base_at-b.ensures c.step-a.ensures.steps (omega (arith, c.step-a.auto)) (omega (arith, c.step-a.auto)) _ _ c.in-Found.is _ c.from-mark.ensures;
   passed = omega arith;
   last = c.loop-k.invariant.last;
   first = λ e. omega (arith, e);
@@ -29,7 +29,7 @@ loop-k-preserved c = record {
 
 pub returns-in-Ended : goal.returns-in-Ended
 returns-in-Ended c =
-    rw c.over.ensures (over_out (record { passing = c.loop-k.invariant.passing; below = c.loop-k-test.true; enough = c.if-answers-free.false }) c.base_at-b.ensures c.step-a.ensures.steps _ c.in-Ended.is)
+    rw c.over.ensures (over_out (record { passing = c.loop-k.invariant.passing; below = c.loop-k-test.true; enough = omega (arith, c.if-answers-free.false) }) c.base_at-b.ensures c.step-a.ensures.steps _ c.in-Ended.is)
 
 pub returns : goal.returns
 returns c =
@@ -38,8 +38,8 @@ returns c =
           rw (c.of.ensures, w.heads-is, w.queue-is, w.answers-is, w.last-is, c.loop-k.invariant.last, c.loop-k.invariant.passed) (none_left c.loop-k.invariant.passing w.loop-k-test.false)
       | then-loop-k-test+then-answers-free w ↦
           rw (c.of.ensures, w.heads-is, w.queue-is, w.answers-is, w.last-is, c.loop-k.invariant.last, c.loop-k.invariant.passed)
-          (too_few c.loop-k.invariant.passing c.loop-k.invariant.first w.loop-k-test.true w.if-answers-free.true)
+          (too_few c.loop-k.invariant.passing c.loop-k.invariant.first w.loop-k-test.true (omega (arith, w.if-answers-free.true)))
       | then-loop-k-test+else-answers-free+in-Refused w ↦
           rw (c.of.ensures, w.heads-is, w.queue-is, w.answers-is, w.last-is, c.loop-k.invariant.passed)
-          (refused_out (record { passing = c.loop-k.invariant.passing; below = w.loop-k-test.true; enough = w.if-answers-free.false }) w.base_at-b.ensures w.step-a.ensures.steps _ w.in-Refused.is)
+          (refused_out (record { passing = c.loop-k.invariant.passing; below = w.loop-k-test.true; enough = omega (arith, w.if-answers-free.false) }) w.base_at-b.ensures w.step-a.ensures.steps _ w.in-Refused.is)
     ]

@@ -10,5 +10,5 @@ returns c =
     let lent = c.in-Some.ensures.lent in
     let even = rw (lent.0, lent.1) at c.in-Some.records.even in
     let s = sized a.starts.now a.stops.now cs even c.if-bstart-slots.false c.if-bstop-slots.false c.if-from-slots.false c.if-to-slots.false c.if-pstop-room.false in
-    written a.a a.b a.base a.starts.now a.stops.now cs s c.rule_of-rule.ensures (rw (lent.0, lent.1) at c.judge.ensures) c.in_ok-counts.was
+    written a.a a.b a.base a.starts.now a.stops.now cs s c.rule_of-rule.ensures.rule (rw (lent.0, lent.1) at c.judge.ensures) c.in_ok-counts.was
     (rw (lent.0, lent.1) at c.lay.ensures)
