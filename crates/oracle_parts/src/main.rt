@@ -100,6 +100,10 @@ fn replay_records(
 
 // `Some` where the job that stands at a place has the fragments recorded with it. What can't be read ahead of the count is 0.
 fn replay(mut reader: Reader) -> Option<()> {
+    // A line with nothing on it has no count.
+    if reader.is_end() {
+        return None;
+    }
     let a = reader.number().unwrap_or_default();
     let b = reader.number().unwrap_or_default();
     let start = reader.number().unwrap_or_default();

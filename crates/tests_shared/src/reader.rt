@@ -1,5 +1,5 @@
 // A text is read, and the numbers in it.
-ghost use Rattle.std.specs.Prelude.{◌≡◌, ◌<◌, ◌≤◌, ◌↔◌, ◌⊎◌, length, take, slice_index, IfOk, IfSome, OnSome, IsTrue};
+ghost use Rattle.std.specs.Prelude.{◌≡◌, ◌+◌, ◌<◌, ◌≤◌, ◌↔◌, ◌⊎◌, length, take, slice_index, IfOk, IfSome, OnSome, IsTrue};
 
 use std::io;
 use std::io::Read;
@@ -21,24 +21,11 @@ pub fn read_text<'a, R: Read>(input: &mut R, memory: &'a mut [u8]) -> io::Result
     Ok(&memory[..done])
 }
 
-// How many digits a text begins with.
-fn digit_count(text: &[u8]) -> usize
-    ensures { result ≤ length text.now }
-{
-    text.iter()
-        .position(|b| !b.is_ascii_digit())
-        .unwrap_or(text.len())
-}
-
-// The number that digits make, where it has 64 bits; of none, 0.
-fn value_of(digits: &[u8]) -> Option<u64> {
-    let mut value: u64 = 0;
-    for b in digits {
-        value = value
-            .checked_mul(10)?
-            .checked_add(u64::from(b.wrapping_sub(b'0')))?;
-    }
-    Some(value)
+// The number with one digit more, where it has 64 bits.
+fn grown(value: u64, digit: u8) -> Option<u64> {
+    value
+        .checked_mul(10)?
+        .checked_add(u64::from(digit.wrapping_sub(b'0')))
 }
 
 // A place in a text, at which it is read. Programs that go by lines give it the whole text and count the line's place beside: a number that can't be
@@ -57,15 +44,32 @@ impl Reader<'_> {
         ensures ahead { OnSome result (self.old.at < self.new.at) }
     {
         let rest = self.text.get(self.at..)?;
-        let n = digit_count(rest);
-        let next = rest.get(n).copied().unwrap_or(b'\n');
-        let value = value_of(&rest[..n]);
-        if b'9' < next || value.is_none() {
+        let mut value = 0;
+        for (i, b) in rest.iter().enumerate() {
+            if !b.is_ascii_digit() {
+                return self.pass(i, *b, value);
+            }
+            let Some(more) = grown(value, *b) else {
+                self.at = 0;
+                return None;
+            };
+            value = more;
+        }
+        self.pass(rest.len(), b'\n', value)
+    }
+
+    // The number whose n digits stand at the place, ahead of the byte that follows them.
+    fn pass(&mut self, n: usize, next: u8, value: u64) -> Option<u64>
+        requires { self.old.at + n ≤ length self.old.text.now }
+        ensures same { self.new.text.now ≡ self.old.text.now }
+        ensures ahead { OnSome result (self.old.at < self.new.at) }
+    {
+        if b'9' < next {
             self.at = 0;
             return None;
         }
         self.at += if next == b' ' { n + 1 } else { n };
-        if n == 0 { None } else { value }
+        if n == 0 { None } else { Some(value) }
     }
 
     // Reads a number as above: `Some` where it is this one, `None` where it is another or can't be read.

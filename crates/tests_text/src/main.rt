@@ -116,10 +116,10 @@ fn find(rt: &impl Print, name: &str, from: &[usize], to: &[usize]) -> io::Result
 fn sample(rt: &impl Print, case: &[u8]) -> io::Result<()> {
     let Some(k) = case.iter().position(|b| *b == b'\n') else {
         rt.write_all(case)?;
-        return print!(rt; ": ");
+        return rt.write_all(b": ");
     };
     rt.write_all(&case[..k])?;
-    print!(rt; ": ")?;
+    rt.write_all(b": ")?;
     let text = &case[k + 1..];
     if case[0] == b'l' {
         return list(rt, text);
@@ -130,7 +130,11 @@ fn sample(rt: &impl Print, case: &[u8]) -> io::Result<()> {
 // The samples of standard input, each up to a byte 30.
 fn samples(rt: &impl Print, all: &[u8]) -> io::Result<()> {
     for part in all.split_inclusive(|b| *b == 30) {
-        sample(rt, part.strip_suffix(&[30]).unwrap_or(part))?;
+        let case = match part.split_last() {
+            Some((30, front)) => front,
+            _ => part,
+        };
+        sample(rt, case)?;
     }
     Ok(())
 }
