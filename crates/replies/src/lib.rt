@@ -86,7 +86,10 @@ fn put_records(out: &mut [u8], at: usize, n: usize, rows: Rows) -> Result<usize,
     for i in 0..n {
         let [stream, row] = rows.answers[i];
         let put = put_record(out, place, stream, row, rows.columns, rows.from);
-        place = put.ok_or(Cut(place))?;
+        let Some(next) = put else {
+            return Err(Cut(place));
+        };
+        place = next;
     }
     Ok(place)
 }

@@ -11,7 +11,7 @@ pub returns-then-length-b : goal.returns-then-length-b
 returns-then-length-b c =
     let a = c.args in
     let here = c.in-Some.ensures.lookup.3 in
-    rw (judge_by a.lengths.now (last_of a.stage) a.b (omega arith), lt-leb (length a.lengths.now) a.b.chrom.0 (omega (arith, here.0)), le-ltb a.b.stop a.b.start (omega (arith, c.if-b.false)), lt-ltb (get_or a.lengths.now a.b.chrom.0 0) a.b.stop (omega (arith, here.1 0, c.if-length-b.true)))
+    rw (judge_by a.lengths.now (last_of a.stage) a.b (omega arith), lt-leb (length a.lengths.now) a.b.chrom.0 (omega (arith, here.0)), le-ltb a.b.stop a.b.start (omega arith), lt-ltb (get_or a.lengths.now a.b.chrom.0 0) a.b.stop (omega (arith, here.1 0)))
 
 pub returns-then-not-follows : goal.returns-then-not-follows
 returns-then-not-follows c = grind (arith, common_steps, judge_by, c.in-Some.ensures.lookup.3.1 0)
